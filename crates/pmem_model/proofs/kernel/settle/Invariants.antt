@@ -1,0 +1,11 @@
+use Rattle.std.proofs.Common.{◌≡◌, ℕ, ◌<◌, get_or, cond}
+use Rattle.pmem_model.specs.Words.{has_core, without_core}
+use Rattle.pmem_model.specs.Kept.{is_between}
+use Rattle.pmem_model.proofs.kernel.settle.Given as goal
+
+abbrev pub invariant-loop-i : goal.invariant-loop-i
+invariant-loop-i l = record {
+  none : l.past < l.first → l.i ≡ l.first;
+  durable : (i : ℕ) → get_or l.durable i 0 ≡ cond (is_between l.first l.i i) (cond (has_core (get_or l.initial.marks i 0) l.core) (get_or l.cached i 0) (get_or l.initial.durable i 0)) (get_or l.initial.durable i 0);
+  marks : (i : ℕ) → get_or l.marks i 0 ≡ cond (is_between l.first l.i i) (cond (has_core (get_or l.initial.marks i 0) l.core) (without_core (get_or l.initial.marks i 0) l.core) (get_or l.initial.marks i 0)) (get_or l.initial.marks i 0);
+}

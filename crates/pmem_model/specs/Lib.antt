@@ -1,0 +1,9 @@
+pub mod Words
+pub mod Places
+pub mod Flushes
+pub mod Kept
+pub mod Memory
+pub mod Laws
+pub mod PlaceLaws
+pub mod Marks
+pub mod Events

@@ -1,0 +1,293 @@
+//! The events on the banks.
+
+ghost use Rattle.std.specs.Prelude.{◌≡◌, ◌≢◌, ℕ, ◌+◌, ◌-◌, ◌<◌, ◌≤◌, ◌==◌, None, Some, slice_set, IsTrue, is_some, length, slice_index, if◌then◌else◌, IfSome, IfNone, IfOk, true};
+ghost use Rattle.pmem_model.specs.Words.{is_within, bursts, stored, flushed, fenced, written_back, lost};
+ghost use Rattle.pmem_model.specs.Places.{bank_of, offset_of, bank_size, bank_start, word_among, bank_at, zero_word, AreBanks};
+
+use crate::bank::Bank;
+use sls_base::{CoreNo, FRAME_WORDS, FRAMES, TABLE_WORDS, WORDS};
+use std::alloc::{AllocError, Global};
+
+/// The bank of a word.
+#[tactic(auto, unfolding(crate::specs::Places::bank_of))]
+pub fn bank_number(at: usize) -> usize
+    ensures { result ≡ bank_of at }
+{
+    if at < TABLE_WORDS {
+        0
+    } else {
+        1 + (at - TABLE_WORDS) / FRAME_WORDS
+    }
+}
+
+/// The place of a word in its bank.
+#[tactic(auto, unfolding(crate::specs::Places::offset_of))]
+pub fn offset(at: usize) -> usize
+    ensures { result ≡ offset_of at }
+{
+    if at < TABLE_WORDS {
+        at
+    } else {
+        (at - TABLE_WORDS) % FRAME_WORDS
+    }
+}
+
+/// The cached value of a word.
+#[tactic(auto, using(crate::proofs::PlaceLemmas::places))]
+pub fn read(banks: &[Option<Bank>], at: usize) -> u64
+    requires banks { AreBanks banks.now }
+    requires range { at < WORDS }
+    requires home { IsTrue (is_some (bank_at banks.now (bank_of at))) }
+    ensures { result ≡ (word_among banks.now at).cached }
+{
+    match &banks[bank_number(at)] {
+        Some(bank) => bank.read(offset(at)),
+        None => unreachable!(),
+    }
+}
+
+/// Stores words from `at` on, inside one bank.
+#[tactic(auto, using(crate::proofs::PlaceLemmas::places))]
+pub fn store(banks: &mut [Option<Bank>], at: usize, words: &[u64])
+    requires banks { AreBanks banks.old }
+    requires range { at < WORDS }
+    requires inside { offset_of at + length words.now ≤ bank_size (bank_of at) }
+    requires home { IsTrue (is_some (bank_at banks.old (bank_of at))) }
+    ensures words { (i : ℕ) → word_among banks.new i
+        ≡ (if is_within at (length words.now) i then stored (slice_index words.now (i - at)) (word_among banks.old i) else word_among banks.old i) }
+    ensures home { (k : ℕ) → is_some (bank_at banks.new k) ≡ is_some (bank_at banks.old k) }
+    ensures banks { AreBanks banks.new }
+{
+    match &mut banks[bank_number(at)] {
+        Some(bank) => bank.store(offset(at), words),
+        None => unreachable!(),
+    }
+}
+
+/// The durable value of a word.
+#[tactic(auto, using(crate::proofs::PlaceLemmas::places))]
+pub fn durable(banks: &[Option<Bank>], at: usize) -> u64
+    requires banks { AreBanks banks.now }
+    requires range { at < WORDS }
+    requires home { IsTrue (is_some (bank_at banks.now (bank_of at))) }
+    ensures { result ≡ (word_among banks.now at).durable }
+{
+    match &banks[bank_number(at)] {
+        Some(bank) => bank.durable(offset(at)),
+        None => unreachable!(),
+    }
+}
+
+/// Marks `count` words from `at` on, inside one bank, as in flight for a core.
+#[tactic(auto, using(crate::proofs::PlaceLemmas::places))]
+pub fn mark(banks: &mut [Option<Bank>], core: CoreNo, at: usize, count: usize)
+    requires banks { AreBanks banks.old }
+    requires core { core < 8 }
+    requires range { at < WORDS }
+    requires inside { offset_of at + count ≤ bank_size (bank_of at) }
+    requires home { IsTrue (is_some (bank_at banks.old (bank_of at))) }
+    ensures words { (i : ℕ) → word_among banks.new i ≡ (if is_within at count i then flushed core (word_among banks.old i) else word_among banks.old i) }
+    ensures home { (k : ℕ) → is_some (bank_at banks.new k) ≡ is_some (bank_at banks.old k) }
+    ensures banks { AreBanks banks.new }
+{
+    match &mut banks[bank_number(at)] {
+        Some(bank) => bank.mark(core, offset(at), count),
+        None => unreachable!(),
+    }
+}
+
+/// Makes a word's cached value durable.
+#[tactic(auto, using(crate::proofs::PlaceLemmas::places))]
+pub fn write_back(banks: &mut [Option<Bank>], at: usize)
+    requires banks { AreBanks banks.old }
+    requires range { at < WORDS }
+    requires home { IsTrue (is_some (bank_at banks.old (bank_of at))) }
+    ensures words { (i : ℕ) → word_among banks.new i ≡ (if is_within at 1 i then written_back (word_among banks.old i) else word_among banks.old i) }
+    ensures home { (k : ℕ) → is_some (bank_at banks.new k) ≡ is_some (bank_at banks.old k) }
+    ensures banks { AreBanks banks.new }
+{
+    match &mut banks[bank_number(at)] {
+        Some(bank) => bank.write_back(offset(at)),
+        None => unreachable!(),
+    }
+}
+
+/// A fence by a core on `count` words from `at` on, inside one bank. Of a bank that is away nothing is changed.
+#[tactic(auto, using(crate::proofs::PlaceLemmas::places))]
+pub fn settle(banks: &mut [Option<Bank>], core: CoreNo, at: usize, count: usize)
+    requires banks { AreBanks banks.old }
+    requires core { core < 8 }
+    requires range { at < WORDS }
+    requires inside { offset_of at + count ≤ bank_size (bank_of at) }
+    ensures words { (i : ℕ) → word_among banks.new i ≡ (if is_within at count i then fenced core (word_among banks.old i) else word_among banks.old i) }
+    ensures home { (k : ℕ) → is_some (bank_at banks.new k) ≡ is_some (bank_at banks.old k) }
+    ensures banks { AreBanks banks.new }
+{
+    match &mut banks[bank_number(at)] {
+        Some(bank) => bank.settle(core, offset(at), count),
+        None => {}
+    }
+}
+
+/// A fence by a core on all banks at home.
+#[tactic(auto, using(crate::specs::Marks::zero_has))]
+pub fn settle_all(banks: &mut [Option<Bank>], core: CoreNo)
+    requires banks { AreBanks banks.old }
+    requires core { core < 8 }
+    ensures words { (i : ℕ) → word_among banks.new i ≡ fenced core (word_among banks.old i) }
+    ensures home { (k : ℕ) → is_some (bank_at banks.new k) ≡ is_some (bank_at banks.old k) }
+    ensures banks { AreBanks banks.new }
+{
+    for k in 0..banks.len() {
+        if let Some(bank) = &mut banks[k] {
+            bank.settle_all(core);
+        }
+    }
+}
+
+/// A power cut.
+pub fn cut(banks: &mut [Option<Bank>])
+    requires { AreBanks banks.old }
+    ensures words { (i : ℕ) → word_among banks.new i ≡ lost (word_among banks.old i) }
+    ensures home { (k : ℕ) → is_some (bank_at banks.new k) ≡ is_some (bank_at banks.old k) }
+    ensures banks { AreBanks banks.new }
+{
+    for k in 0..banks.len() {
+        if let Some(bank) = &mut banks[k] {
+            bank.cut();
+        }
+    }
+}
+
+/// The durable value of a word, 0 where its frame is away.
+#[tactic(auto, using(crate::proofs::PlaceLemmas::places))]
+pub fn durable_or_zero(banks: &[Option<Bank>], at: usize) -> u64
+    requires banks { AreBanks banks.now }
+    requires range { at < WORDS }
+    ensures { result ≡ (word_among banks.now at).durable }
+{
+    match &banks[bank_number(at)] {
+        Some(bank) => bank.durable(offset(at)),
+        None => 0,
+    }
+}
+
+/// The banks of a new memory.
+pub fn new(alloc: Global) -> Result<Vec<Option<Bank>>, AllocError>
+    ensures words { IfOk result (λ banks. (i : ℕ) → word_among banks.items i ≡ zero_word) }
+    ensures home { IfOk result (λ banks. (k : ℕ) → k < 1 + FRAMES → is_some (bank_at banks.items k) ≡ true) }
+    ensures banks { IfOk result (λ banks. AreBanks banks.items) }
+{
+    let mut banks = Vec::with_capacity(alloc, 1 + FRAMES)?;
+    for k in 0..1 + FRAMES {
+        banks.push(Some(Bank::new(alloc, size(k))?))?;
+    }
+    Ok(banks)
+}
+
+/// How many words a bank has.
+#[tactic(auto, unfolding(crate::specs::Places::bank_size))]
+pub fn size(bank: usize) -> usize
+    ensures { result ≡ bank_size bank }
+{
+    if bank == 0 { TABLE_WORDS } else { FRAME_WORDS }
+}
+
+/// Where a bank begins.
+#[tactic(auto, unfolding(crate::specs::Places::bank_start))]
+pub fn start(bank: usize) -> usize
+    requires { bank < 1 + FRAMES }
+    ensures { result ≡ bank_start bank }
+{
+    if bank == 0 {
+        0
+    } else {
+        TABLE_WORDS + FRAME_WORDS * (bank - 1)
+    }
+}
+
+/// The first place in a bank that is not before a word.
+fn first_place(bank: usize, at: usize) -> usize
+    ensures { result ≡ (if bank == bank_of at then offset_of at else 0) }
+{
+    if bank == bank_number(at) {
+        offset(at)
+    } else {
+        0
+    }
+}
+
+/// The least word from `at` on, in banks at home, whose cached and durable values differ.
+#[tactic(auto, using(crate::proofs::PlaceLemmas::walks))]
+pub fn dirty_from(banks: &[Option<Bank>], at: usize) -> Option<usize>
+    requires { AreBanks banks.now }
+    ensures found { IfSome result (λ w. (at ≤ w) × (w < WORDS) × ((word_among banks.now w).cached ≢ (word_among banks.now w).durable)) }
+    ensures before { IfSome result (λ w. (i : ℕ) → at ≤ i → i < w → (word_among banks.now i).cached ≡ (word_among banks.now i).durable) }
+    ensures none { IfNone result ((i : ℕ) → at ≤ i → i < WORDS → (word_among banks.now i).cached ≡ (word_among banks.now i).durable) }
+{
+    let first = bank_number(at);
+    for k in first..banks.len() {
+        if let Some(bank) = &banks[k] {
+            let from = first_place(k, at);
+            if let Some(place) = bank.dirty_from(from) {
+                return Some(start(k) + place);
+            }
+        }
+    }
+    None
+}
+
+/// Stores the cached words of one frame into another.
+pub fn copy(banks: &mut [Option<Bank>], from: usize, to: usize)
+    requires banks { AreBanks banks.old }
+    requires from_frame { from < FRAMES }
+    requires to_frame { to < FRAMES }
+    requires other { from ≢ to }
+    requires from_home { IsTrue (is_some (bank_at banks.old (1 + from))) }
+    requires to_home { IsTrue (is_some (bank_at banks.old (1 + to))) }
+    ensures words { (i : ℕ) → word_among banks.new i
+        ≡ bursts (bank_start (1 + to)) 512 (λ k. (word_among banks.old (bank_start (1 + from) + k)).cached) (word_among banks.old) i }
+    ensures home { (k : ℕ) → is_some (bank_at banks.new k) ≡ is_some (bank_at banks.old k) }
+    ensures banks { AreBanks banks.new }
+{
+    match banks[1 + to].take() {
+        Some(mut target) => {
+            match &banks[1 + from] {
+                Some(source) => target.store(0, source.cached_words()),
+                None => unreachable!(),
+            }
+            banks[1 + to] = Some(target);
+        }
+        None => unreachable!(),
+    }
+}
+
+/// Takes a bank out.
+pub fn take(banks: &mut [Option<Bank>], bank: usize) -> Bank
+    requires banks { AreBanks banks.old }
+    requires home { IsTrue (is_some (bank_at banks.old bank)) }
+    ensures taken { bank_at banks.old bank ≡ Some result }
+    ensures banks { banks.new ≡ slice_set banks.old bank None }
+    ensures sized { AreBanks banks.new }
+{
+    match banks[bank].take() {
+        Some(taken) => taken,
+        None => unreachable!(),
+    }
+}
+
+/// The banks of a memory with these words, cached and durable.
+#[tactic(auto, using(crate::proofs::PlaceLemmas::parts))]
+pub fn from_words(alloc: Global, words: &[u64]) -> Result<Vec<Option<Bank>>, AllocError>
+    requires { length words.now ≡ WORDS }
+    ensures words { IfOk result (λ banks. (i : ℕ) → word_among banks.items i ≡ record { cached = slice_index words.now i; durable = slice_index words.now i; marks = 0 }) }
+    ensures home { IfOk result (λ banks. (k : ℕ) → k < 1 + FRAMES → is_some (bank_at banks.items k) ≡ true) }
+    ensures banks { IfOk result (λ banks. AreBanks banks.items) }
+{
+    let mut banks = Vec::with_capacity(alloc, 1 + FRAMES)?;
+    for k in 0..1 + FRAMES {
+        let from = start(k);
+        banks.push(Some(Bank::from_words(alloc, &words[from..from + size(k)])?))?;
+    }
+    Ok(banks)
+}
