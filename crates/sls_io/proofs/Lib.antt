@@ -1,0 +1,4 @@
+pub mod KnownBytes
+pub mod ShelfLemmas
+pub mod SinkLemmas
+pub mod SourceLemmas

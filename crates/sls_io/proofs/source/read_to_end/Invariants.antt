@@ -1,0 +1,13 @@
+-- What the bytes read so far are of what the source had.
+use Rattle.std.proofs.Common.{◌≡◌, ◌≤◌, ◌+◌, ◌-◌, length}
+use Rattle.std.specs.Io.KnownBytes.{prepend_known}
+use Rattle.sls_io.proofs.source.read_to_end.Given as goal
+
+abbrev pub invariant-loop-piece : goal.invariant-loop-piece
+invariant-loop-piece g l =
+    (length l.bytes.items ≤ l.limit + 1)
+    × (g.S.Source.left l.initial.source ≡ prepend_known l.bytes.items (g.S.Source.left l.source))
+    × (g.S.Source.faults l.initial.source ≤ g.S.Source.faults l.source)
+
+abbrev pub decreases-loop-piece : goal.decreases-loop-piece
+decreases-loop-piece g l = l.limit + 1 - length l.bytes.items

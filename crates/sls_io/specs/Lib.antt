@@ -1,0 +1,4 @@
+pub mod Faults
+pub mod MemShelf
+pub mod Shelf
+pub mod Sink
