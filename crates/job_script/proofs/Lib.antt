@@ -1,0 +1,5 @@
+pub mod Parts
+pub mod Numbers
+pub mod Steps
+pub mod Ranges
+pub mod Order
