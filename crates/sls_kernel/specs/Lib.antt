@@ -1,0 +1,9 @@
+pub mod Plain
+pub mod Words
+pub mod Counts
+pub mod Steps
+pub mod Areas
+pub mod Stages
+pub mod Program
+pub mod Shows
+pub mod Side

@@ -1,0 +1,215 @@
+ghost use Rattle.std.specs.Prelude.{IfOk};
+ghost use Rattle.pmem_model.specs.Memory.{AllHome};
+ghost use Rattle.sls_kernel.specs.Program.{IsOfCode};
+
+use crate::{Asked, Did, Machine, Off, memory};
+use pmem_model::Pmem;
+use sls_base::{FRAME_WORDS, Image, PAGE_BYTES, Program, RegionSpec};
+use std::alloc::Global;
+use std::process::Abort;
+use std::test::Fail;
+
+/// A program that counts up in its page and puts each count, of four bytes, on channel 0: nine instructions a round.
+const CODE: [u32; 9] = [
+    0x0400_2283, // lw x5, 64(x0)
+    0x0012_8293, // addi x5, x5, 1
+    0x0450_2023, // sw x5, 64(x0)
+    0x0020_0513, // addi x10, x0, 2
+    0x0400_0593, // addi x11, x0, 64
+    0x0040_0613, // addi x12, x0, 4
+    0x0020_0893, // addi x17, x0, 2
+    0x0000_0073, // ecall
+    0xFE1F_F06F, // jal x0, -32
+];
+
+/// The turns of a round of the program.
+const ROUND: u32 = 9;
+/// The turns of formatting.
+const FORMATTING: u32 = 17;
+/// The turns of a checkpoint.
+const CHECKPOINT: u32 = 16;
+/// The turns of recovery.
+const RECOVERY: u32 = 5;
+
+/// The first frame of the first area, which formatting makes durable.
+const FIRST_AREA: usize = 16;
+/// The frames of an area.
+const PARTS: usize = 6;
+
+/// The image of the program.
+fn counting(rt: &impl Abort, alloc: Global) -> Result<Image, Fail>
+    ensures { IfOk result IsOfCode }
+{
+    let mut content = Vec::new(alloc);
+    for word in CODE {
+        content.extend_from_slice(&word.to_le_bytes())?;
+    }
+    assert!(rt; content.len() <= PAGE_BYTES);
+    let mut regions = Vec::new(alloc);
+    regions.push(RegionSpec {
+        base: 0,
+        pages: 1,
+        rights: 7,
+        content,
+    })?;
+    let mut programs = Vec::new(alloc);
+    programs.push(Program {
+        entry: 0,
+        threads: 1,
+        channels: 63,
+        regions,
+    })?;
+    Ok(Image { programs })
+}
+
+/// A machine that begins to format an empty memory.
+fn boot(alloc: Global, image: &Image) -> Result<Machine, Fail>
+    requires { IsOfCode image.now }
+{
+    let nvm = Pmem::new(alloc)?;
+    let machine = Machine::boot(alloc, image, 1, nvm);
+    Ok(machine.ok().ok_or("there is memory for a machine")?)
+}
+
+/// A machine that went through a power cut.
+fn cut_and_light(alloc: Global, machine: Machine, image: &Image) -> Result<Machine, Fail>
+    requires { IsOfCode image.now }
+{
+    let machine = machine.cut().light(alloc, image, 1);
+    Ok(machine.ok().ok_or("there is memory for a machine")?)
+}
+
+/// What the last of so many turns did.
+fn turns(machine: &mut Machine, count: u32) -> Did {
+    let mut did = Did::Idle;
+    for _ in 0..count {
+        did = machine.turn(0);
+    }
+    did
+}
+
+/// What asking for a checkpoint gives.
+fn ask(rt: &impl Abort, alloc: Global, machine: &mut Machine) -> Asked {
+    assert!(rt; machine.is_up());
+    machine.ask(alloc)
+}
+
+/// Whether channel 0 has nothing to accept.
+fn has_none(rt: &impl Abort, machine: &mut Machine) -> bool {
+    assert!(rt; machine.is_up());
+    machine.accept(0).is_none()
+}
+
+/// Whether the next entry of channel 0 is the one of this number, with these bytes.
+fn accepts(rt: &impl Abort, machine: &mut Machine, number: u64, bytes: &[u8]) -> bool {
+    assert!(rt; machine.is_up());
+    match machine.accept(0) {
+        Some(entry) => entry.number == number && entry.bytes.as_slice() == bytes,
+        None => false,
+    }
+}
+
+/// The durable words of two memories are the same where formatting stores them.
+fn is_same(one: &Off, other: &Off) -> bool
+    requires one { AllHome one.now.nvm }
+    requires other { AllHome other.now.nvm }
+{
+    for at in 0..2 {
+        if memory::table_durable(&one.nvm, at) != memory::table_durable(&other.nvm, at) {
+            return false;
+        }
+    }
+    for frame in FIRST_AREA..FIRST_AREA + PARTS {
+        for i in 0..FRAME_WORDS {
+            if memory::durable(&one.nvm, frame, i) != memory::durable(&other.nvm, frame, i) {
+                return false;
+            }
+        }
+    }
+    true
+}
+
+#[test]
+fn formatting_takes_17_turns_and_ends_at_version_0(rt: HostRuntime) -> Result<(), Fail> {
+    let image = counting(&rt, rt.alloc())?;
+    let mut machine = boot(rt.alloc(), &image)?;
+    assert!(rt; !machine.is_up());
+    for _ in 1..FORMATTING {
+        assert!(rt; !machine.is_up());
+        machine.turn(0);
+    }
+    assert_eq!(rt; machine.turn(0), Did::Up(0));
+    assert!(rt; machine.is_up());
+    assert_eq!(rt; machine.version(), 0);
+    Ok(())
+}
+
+#[test]
+fn a_cut_within_formatting_leaves_the_same_memory_in_the_end(rt: HostRuntime) -> Result<(), Fail> {
+    let image = counting(&rt, rt.alloc())?;
+    let mut straight = boot(rt.alloc(), &image)?;
+    assert_eq!(rt; turns(&mut straight, FORMATTING), Did::Up(0));
+    let straight = straight.cut();
+    for before in 0..FORMATTING {
+        let mut machine = boot(rt.alloc(), &image)?;
+        turns(&mut machine, before);
+        let mut machine = cut_and_light(rt.alloc(), machine, &image)?;
+        assert_eq!(rt;
+            turns(&mut machine, FORMATTING),
+            Did::Up(0),
+            "after {before}"
+        );
+        assert!(rt; is_same(&machine.cut(), &straight), "after {before}");
+    }
+    Ok(())
+}
+
+#[test]
+fn an_entry_is_accepted_once_committed_and_what_is_not_committed_is_lost_in_a_cut(
+    rt: HostRuntime,
+) -> Result<(), Fail> {
+    let image = counting(&rt, rt.alloc())?;
+    let mut machine = boot(rt.alloc(), &image)?;
+    turns(&mut machine, FORMATTING);
+    assert_eq!(rt; turns(&mut machine, ROUND), Did::Retired);
+    assert!(rt; has_none(&rt, &mut machine));
+    assert_eq!(rt; ask(&rt, rt.alloc(), &mut machine), Asked::Started);
+    assert_eq!(rt; turns(&mut machine, CHECKPOINT), Did::Committed(1));
+    assert!(rt; accepts(&rt, &mut machine, 0, &[1, 0, 0, 0]));
+    assert!(rt; has_none(&rt, &mut machine));
+
+    turns(&mut machine, ROUND);
+    assert_eq!(rt; ask(&rt, rt.alloc(), &mut machine), Asked::Started);
+    turns(&mut machine, CHECKPOINT - 1);
+    let mut machine = cut_and_light(rt.alloc(), machine, &image)?;
+    assert_eq!(rt; turns(&mut machine, RECOVERY), Did::Up(1));
+    assert!(rt; has_none(&rt, &mut machine));
+
+    turns(&mut machine, ROUND);
+    assert_eq!(rt; ask(&rt, rt.alloc(), &mut machine), Asked::Started);
+    assert_eq!(rt; turns(&mut machine, CHECKPOINT), Did::Committed(2));
+    assert!(rt; accepts(&rt, &mut machine, 1, &[2, 0, 0, 0]));
+    Ok(())
+}
+
+#[test]
+fn a_write_back_of_the_version_word_commits(rt: HostRuntime) -> Result<(), Fail> {
+    let image = counting(&rt, rt.alloc())?;
+    let mut machine = boot(rt.alloc(), &image)?;
+    turns(&mut machine, FORMATTING + ROUND);
+    assert_eq!(rt; ask(&rt, rt.alloc(), &mut machine), Asked::Started);
+    assert_eq!(rt; ask(&rt, rt.alloc(), &mut machine), Asked::InFlight);
+    for _ in 0..CHECKPOINT {
+        if machine.dirty_from(1) == Some(1) {
+            break;
+        }
+        machine.turn(0);
+    }
+    assert_eq!(rt; machine.version(), 0);
+    assert_eq!(rt; machine.write_back(1), Some(1));
+    assert!(rt; machine.in_checkpoint());
+    assert!(rt; accepts(&rt, &mut machine, 0, &[1, 0, 0, 0]));
+    let mut machine = cut_and_light(rt.alloc(), machine, &image)?;
+    assert_eq!(rt; turns(&mut machine, RECOVERY), Did::Up(1));
+    Ok(())
+}
