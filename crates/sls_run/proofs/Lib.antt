@@ -1,0 +1,5 @@
+pub mod Turns
+pub mod Writing
+pub mod Codes
+pub mod Jobs
+pub mod Texts

@@ -1,0 +1,14 @@
+use Rattle.std.proofs.Common.{◌≡◌, ◌-◌}
+use Rattle.sls_base.specs.declared.limits.TheConstants.{WORDS}
+use Rattle.sls_kernel.specs.Side.{Running, mode}
+use Rattle.sls_run.specs.Ends.{Keeps}
+use Rattle.sls_run.proofs.drive.write_backs.Given as goal
+
+abbrev pub invariant-loop-word : goal.invariant-loop-word
+invariant-loop-word l = record {
+  up : mode l.machine ≡ Running;
+  kept : Keeps l.fn.machine l.machine;
+}
+
+abbrev pub decreases-loop-word : goal.decreases-loop-word
+decreases-loop-word l = WORDS - l.from

@@ -1,0 +1,52 @@
+-- How a run of a machine ends before the job does, and what its turns do to what it shows.
+use Rattle.std.specs.Prelude.{◌≡◌, ◌<◌, ℕ, List, ◌∷◌, ◌++◌, Option}
+use Rattle.std.specs.Io.KnownBytes.{append_known}
+use Rattle.sls_io.specs.Sink.{AppendsPrefix}
+use Rattle.sls_io.specs.declared.sink.SinkError.{SinkError}
+use Rattle.sls_io.specs.declared.sink.SinkError.TheVariants.{Failed, Memory}
+use Rattle.pmem_model.specs.Memory as memory
+use Rattle.sls_kernel.specs.Plain.{World, commit, accepted_count}
+use Rattle.sls_kernel.specs.Shows.{Shows, Stands, durable_words}
+use Rattle.sls_kernel.specs.declared.machine.Machine.{Machine}
+use Rattle.job_script.specs.declared.line.Line.{Line}
+use Rattle.job_script.specs.declared.line.Line.TheVariants as job
+use Rattle.sls_run.specs.declared.report.Printed.{Printed}
+use Rattle.sls_run.specs.Report.{line_text, text_of}
+
+-- the machine shows what it showed
+abbrev pub Keeps : Machine → Machine → Type 0
+Keeps old new = (w : World) → Shows old w → Shows new w
+
+-- a commit came
+abbrev pub Commits : Machine → Machine → Type 0
+Commits old new = (w : World) → Shows old w → Shows new (commit w)
+
+-- a line names one of the four channels
+abbrev pub HasChannels : Line → Type 0
+HasChannels (job.Take channel n) = channel < 4
+HasChannels (job.Cores n) = Unit {0}
+HasChannels (job.Code word) = Unit {0}
+HasChannels (job.Run n) = Unit {0}
+HasChannels job.Checkpoint = Unit {0}
+HasChannels (job.Cut seed) = Unit {0}
+HasChannels job.End = Unit {0}
+
+-- what a write that ended so has written of a line: some first bytes, or nothing where there was no memory
+abbrev pub PartWritten : SinkError → Option (List ℕ) → Option (List ℕ) → List ℕ → Type 0
+PartWritten Failed old new line = AppendsPrefix old new line
+PartWritten Memory old new line = new ≡ old
+
+-- The run broke at a line that it was to print: the lines before it were written, and a part of it; and the durable
+-- words stand for the saved copy of the world at that line.
+pub record BreaksAt (error : SinkError) (old new : Option (List ℕ)) (nvm : memory.Memory) (prints : List (Printed × World)) : Type 0 where
+  pub before : List (Printed × World)
+  pub at : Printed × World
+  pub rest : List (Printed × World)
+  pub split : prints ≡ before ++ at ∷ rest
+  pub written : PartWritten error (append_known old (text_of before)) new (line_text at.0)
+  pub stands : Stands (durable_words nvm) (accepted_count at.1) at.1.saved
+
+-- All of these lines were written, and the machine shows the world behind them.
+pub record Ran (old new : Option (List ℕ)) (machine : Machine) (prints : List (Printed × World)) (behind : World) : Type 0 where
+  pub written : new ≡ append_known old (text_of prints)
+  pub shows : Shows machine behind

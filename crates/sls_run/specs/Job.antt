@@ -1,0 +1,113 @@
+-- What a run of a job leaves, by the status that it ends with.
+use Rattle.std.specs.Prelude.{◌≡◌, ◌⊎◌, ℕ, List, [], ◌∷◌, Option, codes, string_bytes, String, IfSome}
+use Rattle.std.specs.Io.KnownBytes.{append_known, IsAtEnd}
+use Rattle.pmem_model.specs.Memory as memory
+use Rattle.sls_io.specs.Faults.{Rose}
+use Rattle.sls_io.specs.Sink.{AppendsPrefix}
+use Rattle.sls_io.specs.declared.sink.SinkError.TheVariants as error
+use Rattle.sls_kernel.specs.Plain.{World, accepted_count, one_more}
+use Rattle.sls_kernel.specs.Shows.{Stands, durable_words}
+use Rattle.job_script.specs.declared.line.Line.{Line}
+use Rattle.job_script.specs.declared.fault.JobCause.{JobCause}
+use Rattle.job_script.specs.Grammar.{Verdict, Good, Faulty, verdict}
+use Rattle.job_script.specs.Job.{words_of}
+use Rattle.sls_run.specs.declared.status.Status.{Status}
+use Rattle.sls_run.specs.declared.status.Status.TheVariants as status
+use Rattle.sls_run.specs.declared.report.Printed.{Printed}
+use Rattle.sls_run.specs.declared.report.Printed.TheVariants as line
+use Rattle.sls_run.specs.Report.{line_text, report, first_of, all_prints, world_after}
+use Rattle.sls_run.specs.Ends.{BreaksAt}
+
+-- the plain machine behind the lines of a job
+abbrev pub end_of : List Line → World
+end_of lines = world_after lines (first_of (words_of lines))
+
+-- what a job prints
+abbrev pub prints : List Line → List (Printed × World)
+prints lines = all_prints lines (first_of (words_of lines))
+
+-- Done: the report of the plain machine was written, and the durable words stand for its saved copy; the memory counted
+-- its commits and its cuts, and the last cut.
+pub record RunsWhole (lines : List Line) (old new : Option (List ℕ)) (nvm : memory.Memory) : Type 0 where
+  pub report_is : new ≡ append_known old (report lines (words_of lines))
+  pub stands : Stands (durable_words nvm) (accepted_count (end_of lines)) (end_of lines).saved
+  pub commits : nvm.commits ≡ (end_of lines).commits
+  pub cuts : nvm.cuts ≡ one_more (end_of lines).cuts
+
+-- a status's last line after what was written: all of it, a part where its write failed, or nothing where there was no
+-- memory for it
+abbrev pub LastLine : Status → Printed → Option (List ℕ) → Option (List ℕ) → Status → Type 0
+LastLine wanted last old new status.WriteFault = AppendsPrefix old new (line_text last)
+LastLine wanted last old new status.Memory = (new ≡ old) ⊎ (wanted ≡ status.Memory) × (new ≡ append_known old (line_text last))
+LastLine wanted last old new status.Done = (wanted ≡ status.Done) × (new ≡ append_known old (line_text last))
+LastLine wanted last old new status.Usage = (wanted ≡ status.Usage) × (new ≡ append_known old (line_text last))
+LastLine wanted last old new status.BadJob = (wanted ≡ status.BadJob) × (new ≡ append_known old (line_text last))
+LastLine wanted last old new status.ReadFault = (wanted ≡ status.ReadFault) × (new ≡ append_known old (line_text last))
+
+-- the run broke where there was no memory, and the last line was tried
+pub record BreaksInMemory (lines : List Line) (old new : Option (List ℕ)) (nvm : memory.Memory) (ended : Status) : Type 0 where
+  pub between : Option (List ℕ)
+  pub broke : BreaksAt error.Memory old between nvm (prints lines)
+  pub last : LastLine status.Memory line.Memory between new ended
+
+-- What a run of a job's lines leaves on a memory that came as it was made.
+abbrev pub IsRun : List Line → Option (List ℕ) → Option (List ℕ) → memory.Memory → Status → memory.Memory → Type 0
+IsRun lines old new came status.Done nvm = RunsWhole lines old new nvm
+IsRun lines old new came status.WriteFault nvm =
+    BreaksAt error.Failed old new nvm (prints lines) ⊎ (BreaksInMemory lines old new nvm status.WriteFault ⊎ (nvm ≡ came) × LastLine status.Memory line.Memory old new status.WriteFault)
+IsRun lines old new came status.Memory nvm =
+    BreaksInMemory lines old new nvm status.Memory ⊎ (nvm ≡ came) × LastLine status.Memory line.Memory old new status.Memory
+IsRun lines old new came status.Usage nvm = ⊥
+IsRun lines old new came status.BadJob nvm = ⊥
+IsRun lines old new came status.ReadFault nvm = ⊥
+
+-- The words of the program are exactly `run`.
+abbrev pub IsRunWords : {A : Type 0} → List (String A) → Type 0
+IsRunWords [] = ⊥
+IsRunWords (word ∷ []) = string_bytes word ≡ codes "run"
+IsRunWords (word ∷ (more ∷ rest)) = ⊥
+
+-- Nothing was run: the status's line is the last, and the memory is as it came.
+pub record EndsAt (wanted : Status) (last : Printed) (old new : Option (List ℕ)) (came nvm : memory.Memory) (ended : Status) : Type 0 where
+  pub last_line : LastLine wanted last old new ended
+  pub memory_stays : nvm ≡ came
+
+-- A text was read that says this, which is what the source's text says where that is told.
+pub record IsRead (left : Option (List ℕ)) (said : Verdict) : Type 0 where
+  pub text : List ℕ
+  pub is_text : IfSome left (λ all. verdict all ≡ verdict text)
+  pub says : verdict text ≡ said
+
+-- The job was read to its end, and was run.
+pub record RanJob (left left_after old new : Option (List ℕ)) (came : memory.Memory) (ended : Status) (nvm : memory.Memory) : Type 0 where
+  pub lines : List Line
+  pub read : IsRead left (Good lines)
+  pub at_end : IsAtEnd left_after
+  pub run : IsRun lines old new came ended nvm
+
+-- The job is at fault, and the last line tells where and why.
+pub record RefusedJob (left old new : Option (List ℕ)) (came : memory.Memory) (ended : Status) (nvm : memory.Memory) : Type 0 where
+  pub at : ℕ
+  pub cause : JobCause
+  pub read : IsRead left (Faulty at cause)
+  pub ends : EndsAt status.BadJob (line.BadJob at cause) old new came nvm ended
+
+-- A read of the job failed.
+pub record FailedRead (faults faults_after : ℕ) (old new : Option (List ℕ)) (came : memory.Memory) (ended : Status) (nvm : memory.Memory) : Type 0 where
+  pub rose : Rose faults faults_after
+  pub ends : EndsAt status.ReadFault line.ReadFault old new came nvm ended
+
+-- What a run leaves: a read of the job failed, or there was no memory to read it, or it is at fault, or it was run.
+abbrev pub LeavesRun : (left left_after : Option (List ℕ)) → ℕ → ℕ → Option (List ℕ) → Option (List ℕ) → memory.Memory → Status → memory.Memory → Type 0
+LeavesRun left left_after faults faults_after old new came ended nvm =
+    FailedRead faults faults_after old new came ended nvm
+    ⊎ (EndsAt status.Memory line.Memory old new came nvm ended
+    ⊎ (RefusedJob left old new came ended nvm
+    ⊎ RanJob left left_after old new came ended nvm))
+
+-- What a run of a text leaves: there was no memory to read it, or it is at fault, or it is a job, which was run.
+abbrev pub LeavesText : List ℕ → Option (List ℕ) → Option (List ℕ) → memory.Memory → Status → memory.Memory → Type 0
+LeavesText text old new came ended nvm =
+    EndsAt status.Memory line.Memory old new came nvm ended
+    ⊎ (((at : ℕ) × (cause : JobCause) × (verdict text ≡ Faulty at cause) × EndsAt status.BadJob (line.BadJob at cause) old new came nvm ended)
+    ⊎ ((lines : List Line) × (verdict text ≡ Good lines) × IsRun lines old new came ended nvm))

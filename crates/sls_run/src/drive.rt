@@ -1,0 +1,104 @@
+//! Drives a machine through whole checkpoints, power cuts and runs.
+
+ghost use Rattle.std.specs.Prelude.{◌≡◌, ◌⊎◌, ◌<◌, ◌≤◌, ℕ, IfOk, IfErr, IsTrue};
+ghost use Rattle.sls_kernel.specs.Plain.{World, cut, commit, accepted_count};
+ghost use Rattle.sls_kernel.specs.Side.{Formatting, Recovering, Running, BeforeCommit, mode, left};
+ghost use Rattle.sls_kernel.specs.Shows.{Shows, Stands, durable_words};
+ghost use Rattle.sls_kernel.specs.Program.{IsOfCode};
+ghost use Rattle.sls_run.specs.Report.{ticks, checkpoint_line, checkpointed};
+ghost use Rattle.sls_run.specs.Ends.{Keeps, Commits};
+
+use crate::report::Printed;
+use pmem_model::Pmem;
+use sls_base::{CoreNo, Image, Lcg};
+use sls_kernel::{Asked, Machine};
+use std::alloc::Global;
+
+/// The one core.
+const CORE: CoreNo = 0;
+
+/// The bit of a draw that decides whether a word is written back.
+const CHOICE_BIT: u32 = 33;
+
+/// Turns until a machine that formats or recovers is up.
+pub fn bring_up(machine: &mut Machine)
+    requires { (mode machine.old ≡ Formatting) ⊎ (mode machine.old ≡ Recovering) }
+    ensures up { mode machine.new ≡ Running }
+    ensures shows { Keeps machine.old machine.new }
+{
+    while !machine.is_up() {
+        machine.turn(CORE);
+    }
+}
+
+/// So many ticks.
+pub fn run(machine: &mut Machine, count: u64)
+    requires { mode machine.old ≡ Running }
+    ensures up { mode machine.new ≡ Running }
+    ensures shows { (w : World) → Shows machine.old w → Shows machine.new (ticks count w) }
+{
+    'ticks: for _i in 0..count {
+        machine.turn(CORE);
+    }
+}
+
+/// Turns until a checkpoint has resumed.
+fn finish(machine: &mut Machine)
+    requires { mode machine.old ≡ BeforeCommit }
+    ensures up { mode machine.new ≡ Running }
+    ensures shows { Commits machine.old machine.new }
+{
+    while machine.in_checkpoint() {
+        machine.turn(CORE);
+    }
+}
+
+/// A checkpoint, and its line.
+pub fn checkpoint(alloc: Global, machine: &mut Machine) -> Printed
+    requires { mode machine.old ≡ Running }
+    ensures up { mode machine.new ≡ Running }
+    ensures shows { (w : World) → Shows machine.old w → (result ≡ checkpoint_line w) × Shows machine.new (checkpointed w) }
+{
+    match machine.ask(alloc) {
+        Asked::Started => {
+            finish(machine);
+            Printed::Commit(machine.version())
+        }
+        Asked::VersionSpent(version) => Printed::Spent(version),
+        Asked::InFlight | Asked::Memory => unreachable!(),
+    }
+}
+
+/// Writes dirty words back, in rising order, each where the generator draws so.
+pub fn write_backs(machine: &mut Machine, seed: u64)
+    requires { mode machine.old ≡ Running }
+    ensures up { mode machine.new ≡ Running }
+    ensures shows { Keeps machine.old machine.new }
+{
+    let mut draws = Lcg { state: seed };
+    let mut from = 0;
+    while let Some(word) = machine.dirty_from(from) {
+        if draws.next() >> CHOICE_BIT & 1 == 1 {
+            machine.write_back(word);
+        }
+        from = word + 1;
+    }
+}
+
+/// Cuts the power and gives it back, and turns until the machine is up again. Where there is no memory to light it, its
+/// persistent memory comes back after the cut.
+pub fn restart(alloc: Global, image: &Image, machine: Machine) -> Result<Machine, Pmem>
+    requires up { mode machine ≡ Running }
+    requires image { IsOfCode image.now }
+    ensures up { IfOk result (λ new. mode new ≡ Running) }
+    ensures shows { IfOk result (λ new. (w : World) → Shows machine w → Shows new (cut w)) }
+    ensures refused { IfErr result (λ nvm. (w : World) → Shows machine w → Stands (durable_words nvm) (accepted_count w) w.saved) }
+{
+    match machine.cut().light(alloc, image, 1) {
+        Ok(mut machine) => {
+            bring_up(&mut machine);
+            Ok(machine)
+        }
+        Err(refused) => Err(refused.off.nvm),
+    }
+}

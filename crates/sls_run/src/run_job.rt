@@ -1,0 +1,175 @@
+//! The top call: a job is read, run and reported.
+
+ghost use Rattle.std.specs.Prelude.{◌≡◌, ◌≢◌, ◌≤◌, ◌↔◌, ℕ, IsTrue, is_some};
+ghost use Rattle.pmem_model.specs.Memory.{word_at, AllHome};
+ghost use Rattle.pmem_model.specs.Places.{zero_word};
+ghost use Rattle.sls_io.specs.Faults.{Rose};
+ghost use Rattle.sls_kernel.specs.Plain.{World};
+ghost use Rattle.sls_kernel.specs.Program.{IsOfCode};
+ghost use Rattle.sls_kernel.specs.Side.{Running, mode};
+ghost use Rattle.sls_kernel.specs.Shows.{Shows};
+ghost use Rattle.job_script.specs.Job.{IsJob, words_of};
+ghost use Rattle.sls_run.specs.Report.{first_of};
+ghost use Rattle.sls_run.specs.Job.{IsRun, LastLine, IsRunWords, EndsAt, LeavesRun, LeavesText};
+ghost use Rattle.sls_run.specs.declared.report.Printed.TheVariants as line;
+
+use crate::code::image_of_lines;
+use crate::drive;
+use crate::lines::{Broken, run_lines};
+use crate::report::{Printed, print};
+use crate::status::Status;
+use job_script::{JobError, Line, read_job};
+use pmem_model::Pmem;
+use sls_base::Image;
+use sls_io::{ReadError, Shelf, Sink, SinkError, Source, read_to_end};
+use sls_kernel::Machine;
+use std::alloc::Global;
+
+/// The bytes that a job may have.
+const JOB_BYTES: usize = 65_536;
+
+/// Prints the last line of a status. A write that fails, or finds no memory, makes the status so.
+fn end<O: Sink>(alloc: Global, out: &mut O, status: Status, line: Printed) -> Status
+    requires { status ≢ Status.WriteFault }
+    ensures last { LastLine status line (O.written out.old) (O.written out.new) result }
+    ensures cause { result ≡ Status.WriteFault → Rose (O.faults out.old) (O.faults out.new) }
+    ensures told { is_some (O.written out.new) ≡ is_some (O.written out.old) }
+    ensures never_falls { O.faults out.old ≤ O.faults out.new }
+{
+    match print(alloc, out, line) {
+        Ok(()) => status,
+        Err(SinkError::Failed) => Status::WriteFault,
+        Err(SinkError::Memory) => Status::Memory,
+    }
+}
+
+/// Runs the lines of a job on a machine that is up, and cuts its power.
+fn run_up<O: Sink>(
+    alloc: Global,
+    image: &Image,
+    lines: &[Line],
+    out: &mut O,
+    machine: Machine,
+) -> (Status, Pmem)
+    requires up { mode machine ≡ Running }
+    requires image { IsOfCode image.now }
+    requires job { IsJob lines.now }
+    requires first { Shows machine (first_of (words_of lines.now)) }
+    ensures run { (came : Pmem) → IsRun lines.now (O.written out.old) (O.written out.new) came result.0 result.1 }
+    ensures cause { result.0 ≡ Status.WriteFault → Rose (O.faults out.old) (O.faults out.new) }
+    ensures told { is_some (O.written out.new) ≡ is_some (O.written out.old) }
+    ensures never_falls { O.faults out.old ≤ O.faults out.new }
+{
+    match run_lines(alloc, image, lines, out, machine) {
+        Ok(machine) => (Status::Done, machine.cut().nvm),
+        Err(
+            Broken {
+                error: SinkError::Failed,
+                nvm,
+            },
+        ) => (Status::WriteFault, nvm),
+        Err(
+            Broken {
+                error: SinkError::Memory,
+                nvm,
+            },
+        ) => (end(alloc, out, Status::Memory, Printed::Memory), nvm),
+    }
+}
+
+/// Runs the lines of a job on an empty memory.
+fn run_parsed<O: Sink>(alloc: Global, lines: &[Line], out: &mut O, nvm: Pmem) -> (Status, Pmem)
+    requires zero { (i : ℕ) → word_at nvm i ≡ zero_word }
+    requires home { AllHome nvm }
+    requires commits { nvm.commits ≡ 0 }
+    requires cuts { nvm.cuts ≡ 0 }
+    requires job { IsJob lines.now }
+    ensures run { IsRun lines.now (O.written out.old) (O.written out.new) nvm result.0 result.1 }
+    ensures cause { result.0 ≡ Status.WriteFault → Rose (O.faults out.old) (O.faults out.new) }
+    ensures told { is_some (O.written out.new) ≡ is_some (O.written out.old) }
+    ensures never_falls { O.faults out.old ≤ O.faults out.new }
+{
+    let Ok(image) = image_of_lines(alloc, lines) else {
+        return (end(alloc, out, Status::Memory, Printed::Memory), nvm);
+    };
+    match Machine::boot(alloc, &image, 1, nvm) {
+        Ok(mut machine) => {
+            drive::bring_up(&mut machine);
+            run_up(alloc, &image, lines, out, machine)
+        }
+        Err(refused) => (
+            end(alloc, out, Status::Memory, Printed::Memory),
+            refused.nvm,
+        ),
+    }
+}
+
+/// Whether the words ask for a run: exactly the word `run`.
+fn is_run(words: &[String]) -> bool
+    ensures { IsTrue result ↔ IsRunWords words.now }
+{
+    match words {
+        [word] => word.as_str() == "run",
+        _ => false,
+    }
+}
+
+/// Runs the job that the source gives, on a memory as it is made: at `Done` the sink was given the report of the plain
+/// machine, and the memory that comes back stands for what it saved.
+///
+/// The words are the program's, and are exactly `run`. A job of this machine needs no shelf, which stays as it is. Each
+/// line is written in one call. A status but `Done` and `WriteFault` has its own last line; where that can't be written,
+/// the status is `WriteFault` or `Memory`. What is given back is the memory as it came where nothing was run, and else
+/// that of the machine after a last power cut.
+pub fn run_job<S: Source, O: Sink, F: Shelf>(
+    alloc: Global,
+    words: &[String],
+    job: &mut S,
+    out: &mut O,
+    _shelf: &mut F,
+    nvm: Pmem,
+) -> (Status, Pmem)
+    requires zero { (i : ℕ) → word_at nvm i ≡ zero_word }
+    requires home { AllHome nvm }
+    requires commits { nvm.commits ≡ 0 }
+    requires cuts { nvm.cuts ≡ 0 }
+    ensures usage { (IsRunWords words.now → ⊥) → EndsAt Status.Usage line.Usage (O.written out.old) (O.written out.new) nvm result.1 result.0 }
+    ensures run { IsRunWords words.now → LeavesRun (S.left job.old) (S.left job.new) (S.faults job.old) (S.faults job.new)
+        (O.written out.old) (O.written out.new) nvm result.0 result.1 }
+    ensures write_fault { result.0 ≡ Status.WriteFault → Rose (O.faults out.old) (O.faults out.new) }
+    ensures told { is_some (O.written out.new) ≡ is_some (O.written out.old) }
+    ensures reads { S.faults job.old ≤ S.faults job.new }
+    ensures writes { O.faults out.old ≤ O.faults out.new }
+    ensures shelf_names { F.names _shelf.new ≡ F.names _shelf.old }
+    ensures shelf_faults { F.faults _shelf.new ≡ F.faults _shelf.old }
+{
+    if !is_run(words) {
+        return (end(alloc, out, Status::Usage, Printed::Usage), nvm);
+    }
+    match read_to_end(alloc, job, JOB_BYTES) {
+        Ok(text) => run_text(alloc, &text, out, nvm),
+        Err(ReadError::Failed) => (end(alloc, out, Status::ReadFault, Printed::ReadFault), nvm),
+        Err(ReadError::Memory) => (end(alloc, out, Status::Memory, Printed::Memory), nvm),
+    }
+}
+
+/// Runs the job that a text is.
+fn run_text<O: Sink>(alloc: Global, text: &[u8], out: &mut O, nvm: Pmem) -> (Status, Pmem)
+    requires zero { (i : ℕ) → word_at nvm i ≡ zero_word }
+    requires home { AllHome nvm }
+    requires commits { nvm.commits ≡ 0 }
+    requires cuts { nvm.cuts ≡ 0 }
+    ensures run { LeavesText text.now (O.written out.old) (O.written out.new) nvm result.0 result.1 }
+    ensures write_fault { result.0 ≡ Status.WriteFault → Rose (O.faults out.old) (O.faults out.new) }
+    ensures told { is_some (O.written out.new) ≡ is_some (O.written out.old) }
+    ensures never_falls { O.faults out.old ≤ O.faults out.new }
+{
+    match read_job(alloc, text) {
+        Ok(parsed) => run_parsed(alloc, &parsed.lines, out, nvm),
+        Err(JobError::Bad { line, cause }) => (
+            end(alloc, out, Status::BadJob, Printed::BadJob(line, cause)),
+            nvm,
+        ),
+        Err(JobError::Memory) => (end(alloc, out, Status::Memory, Printed::Memory), nvm),
+    }
+}
