@@ -2,20 +2,31 @@
 //! memory, the generator of random words, and the plain data that passes between the crates.
 #![tactic(auto)]
 
+mod causes;
 mod entry;
+mod fixed;
 mod image;
 mod lcg;
 mod limits;
+mod rights;
 mod thread;
 
+pub use causes::{
+    BAD_TARGET, BREAKPOINT, HALTED, ILLEGAL_WORD, LOST_OBJECT, MISALIGNED, NO_ACCESS,
+};
 pub use entry::{Entry, Full};
+pub use fixed::{
+    FIRST_OUTPUT_RING, FIRST_PROGRAM_OBJECT, FIRST_PROGRAM_PAGE, INPUT_RING, ROOT_GROUP, SCHEDULER,
+};
 pub use image::{Image, Program, RegionSpec};
 pub use lcg::Lcg;
 pub use limits::{
-    CORE_SLICE, CORES, ENTRY_BYTES, FRAME_WORDS, FRAMES, LAST_VERSION, LINE_WORDS, OUTPUT_CHANNELS,
-    PAGE_BYTES, PAGE_WORDS, REGISTERS, RING_ENTRIES, TABLE_WORDS, WORDS,
+    ADDRESS_PAGES, CORE_SLICE, CORES, ENTRY_BYTES, FRAME_WORDS, FRAMES, GROUP_SLOTS, LAST_VERSION,
+    LINE_WORDS, MEMORY_PAGES, OBJECTS, OUTPUT_CHANNELS, PAGE_BYTES, PAGE_WORDS, PAGES, REGISTERS,
+    RING_ENTRIES, SPACE_REGIONS, TABLE_WORDS, WAITING_INPUTS, WORDS,
 };
-pub use thread::{Ring, Thread, ThreadState};
+pub use rights::{ALL_RIGHTS, EXECUTE, GRANT, READ, REGION_RIGHTS, WRITE};
+pub use thread::{Ring, Thread, ThreadState, ThreadView};
 
 /// The number of an object.
 pub type ObjId = u8;

@@ -31,3 +31,18 @@ pub const ENTRY_BYTES: usize = 56;
 
 /// The greatest version, at which no checkpoint begins.
 pub const LAST_VERSION: u64 = 0xffff_ffff_ffff;
+
+/// The objects: their numbers are below this.
+pub const OBJECTS: usize = 128;
+/// The pages: their numbers are below this.
+pub const PAGES: usize = 512;
+/// The slots of a group.
+pub const GROUP_SLOTS: usize = 32;
+/// The regions of a space.
+pub const SPACE_REGIONS: usize = 16;
+/// The pages of a memory object.
+pub const MEMORY_PAGES: usize = 64;
+/// The pages of all addresses, which have 32 bits.
+pub const ADDRESS_PAGES: u32 = 1_048_576;
+/// The inputs that may wait.
+pub const WAITING_INPUTS: usize = 64;

@@ -25,6 +25,14 @@ pub struct Thread {
     pub x: [u32; 32],
 }
 
+/// What is told of a thread: what it does, its pc, and register x10, which has a call's first argument and its answer.
+#[derive(Clone, Copy, Debug, PartialEq, Eq)]
+pub struct ThreadView {
+    pub state: ThreadState,
+    pub pc: u32,
+    pub x10: u32,
+}
+
 /// The ring of a channel: its number, whether its page is fresh, the entries that were put, and its page.
 #[derive(Clone, Copy, Debug, PartialEq, Eq)]
 pub struct Ring {
