@@ -39,6 +39,10 @@ pub empty_place : offset_of 0 + 0 ≤ bank_size (bank_of 0)
 unfolding bank_of offset_of bank_size
 empty_place = omega arith
 
+pub size_most : (k : ℕ) → bank_size k ≤ 17920
+unfolding bank_size
+size_most k = grind (arith, nat_tests)
+
 pub lines_fit : (at n : ℕ) → offset_of at + n ≤ bank_size (bank_of at) → n ≤ 17920
 unfolding bank_size
 lines_fit at n h = grind (arith, nat_tests)

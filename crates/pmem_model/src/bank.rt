@@ -1,6 +1,7 @@
 //! The words of the table or of one frame.
 
 ghost use Rattle.std.specs.Prelude.{◌≡◌, ◌≢◌, ℕ, ◌+◌, ◌-◌, ◌<◌, ◌≤◌, true, length, slice_index, if◌then◌else◌, IfSome, IfNone, IfOk};
+ghost use Rattle.pmem_model.specs.Kept.{is_between};
 ghost use Rattle.pmem_model.specs.Words.{is_within, has_core, stored, flushed, fenced, written_back, lost, word_in, bank_len};
 
 use crate::kernel;
@@ -31,19 +32,6 @@ impl Model for Bank {
 }
 
 impl Bank {
-    /// Zero words with no marks.
-    pub fn new(alloc: Global, len: usize) -> Result<Bank, AllocError>
-        ensures len { IfOk result (λ b. bank_len b ≡ len) }
-        ensures words { IfOk result (λ b. (i : ℕ) → word_in b i ≡ record { cached = 0; durable = 0; marks = 0 }) }
-    {
-        Ok(Bank {
-            cached: vec![in alloc; 0; len]?,
-            durable: vec![in alloc; 0; len]?,
-            marks: vec![in alloc; 0; len]?,
-            touched: Span::none(),
-        })
-    }
-
     /// These words, cached and durable.
     pub fn from_words(alloc: Global, words: &[u64]) -> Result<Bank, AllocError>
         ensures len { IfOk result (λ b. bank_len b ≡ length words.now) }
@@ -55,13 +43,6 @@ impl Bank {
             marks: vec![in alloc; 0; words.len()]?,
             touched: Span::none(),
         })
-    }
-
-    /// How many words there are.
-    pub fn len(&self) -> usize
-        ensures { result ≡ bank_len self.now }
-    {
-        self.cached.len()
     }
 
     /// The cached value of a word.
@@ -117,32 +98,13 @@ impl Bank {
         self.touched = self.touched.with(at, count);
     }
 
-    /// A fence by a core on `count` words from `at` on.
-    pub fn settle(&mut self, core: CoreNo, at: usize, count: usize)
+    /// A fence by a core on the words from `first` on and before `past`.
+    pub fn settle(&mut self, core: CoreNo, first: usize, past: usize)
         requires core { core < 8 }
-        requires fits { at + count ≤ bank_len self.old }
-        ensures words { (i : ℕ) → word_in self.new i ≡ (if is_within at count i then fenced core (word_in self.old i) else word_in self.old i) }
+        requires fits { past ≤ bank_len self.old }
+        ensures words { (i : ℕ) → word_in self.new i ≡ (if is_between first past i then fenced core (word_in self.old i) else word_in self.old i) }
         ensures len { bank_len self.new ≡ bank_len self.old }
     {
-        kernel::settle(
-            &self.cached,
-            &mut self.durable,
-            &mut self.marks,
-            core,
-            at,
-            at + count,
-        );
-        self.forget_touched(at, at + count);
-    }
-
-    /// A fence by a core on all words.
-    #[tactic(auto, using(crate::specs::Marks::zero_has))]
-    pub fn settle_all(&mut self, core: CoreNo)
-        requires { core < 8 }
-        ensures words { (i : ℕ) → word_in self.new i ≡ fenced core (word_in self.old i) }
-        ensures len { bank_len self.new ≡ bank_len self.old }
-    {
-        let Span { first, past } = self.touched;
         kernel::settle(
             &self.cached,
             &mut self.durable,
@@ -152,6 +114,17 @@ impl Bank {
             past,
         );
         self.forget_touched(first, past);
+    }
+
+    /// A fence by a core on all words: no other than those touched has a mark.
+    #[tactic(auto, using(crate::specs::Marks::zero_has))]
+    pub fn settle_all(&mut self, core: CoreNo)
+        requires { core < 8 }
+        ensures words { (i : ℕ) → word_in self.new i ≡ fenced core (word_in self.old i) }
+        ensures len { bank_len self.new ≡ bank_len self.old }
+    {
+        let Span { first, past } = self.touched;
+        self.settle(core, first, past);
     }
 
     /// Forgets what was touched, if it is from `first` on and before `past`, clean and without marks.

@@ -1,8 +1,8 @@
 //! The events on the banks.
 
-ghost use Rattle.std.specs.Prelude.{◌≡◌, ◌≢◌, ℕ, ◌+◌, ◌-◌, ◌<◌, ◌≤◌, ◌==◌, None, Some, slice_set, IsTrue, is_some, length, slice_index, if◌then◌else◌, IfSome, IfNone, IfOk, true};
+ghost use Rattle.std.specs.Prelude.{◌≡◌, ◌≢◌, ℕ, ◌+◌, ◌-◌, ◌<◌, ◌≤◌, ◌==◌, None, Some, IsTrue, is_some, length, slice_index, if◌then◌else◌, IfSome, IfNone, IfOk, true};
 ghost use Rattle.pmem_model.specs.Words.{is_within, bursts, stored, flushed, fenced, written_back, lost};
-ghost use Rattle.pmem_model.specs.Places.{bank_of, offset_of, bank_size, bank_start, word_among, bank_at, zero_word, AreBanks};
+ghost use Rattle.pmem_model.specs.Places.{bank_of, offset_of, bank_size, bank_start, word_among, bank_at, AreBanks};
 
 use crate::bank::Bank;
 use sls_base::{CoreNo, FRAME_WORDS, FRAMES, TABLE_WORDS, WORDS};
@@ -32,17 +32,17 @@ pub fn offset(at: usize) -> usize
     }
 }
 
-/// The cached value of a word.
+/// The cached and the durable value of a word, zeros where its frame is away.
 #[tactic(auto, using(crate::proofs::PlaceLemmas::places))]
-pub fn read(banks: &[Option<Bank>], at: usize) -> u64
+pub fn values(banks: &[Option<Bank>], at: usize) -> (u64, u64)
     requires banks { AreBanks banks.now }
     requires range { at < WORDS }
-    requires home { IsTrue (is_some (bank_at banks.now (bank_of at))) }
-    ensures { result ≡ (word_among banks.now at).cached }
+    ensures cached { result.0 ≡ (word_among banks.now at).cached }
+    ensures durable { result.1 ≡ (word_among banks.now at).durable }
 {
     match &banks[bank_number(at)] {
-        Some(bank) => bank.read(offset(at)),
-        None => unreachable!(),
+        Some(bank) => (bank.read(offset(at)), bank.durable(offset(at))),
+        None => (0, 0),
     }
 }
 
@@ -60,20 +60,6 @@ pub fn store(banks: &mut [Option<Bank>], at: usize, words: &[u64])
 {
     match &mut banks[bank_number(at)] {
         Some(bank) => bank.store(offset(at), words),
-        None => unreachable!(),
-    }
-}
-
-/// The durable value of a word.
-#[tactic(auto, using(crate::proofs::PlaceLemmas::places))]
-pub fn durable(banks: &[Option<Bank>], at: usize) -> u64
-    requires banks { AreBanks banks.now }
-    requires range { at < WORDS }
-    requires home { IsTrue (is_some (bank_at banks.now (bank_of at))) }
-    ensures { result ≡ (word_among banks.now at).durable }
-{
-    match &banks[bank_number(at)] {
-        Some(bank) => bank.durable(offset(at)),
         None => unreachable!(),
     }
 }
@@ -113,7 +99,7 @@ pub fn write_back(banks: &mut [Option<Bank>], at: usize)
 }
 
 /// A fence by a core on `count` words from `at` on, inside one bank. Of a bank that is away nothing is changed.
-#[tactic(auto, using(crate::proofs::PlaceLemmas::places))]
+#[tactic(auto, using(crate::proofs::PlaceLemmas::places, crate::proofs::PlaceLemmas::size_most))]
 pub fn settle(banks: &mut [Option<Bank>], core: CoreNo, at: usize, count: usize)
     requires banks { AreBanks banks.old }
     requires core { core < 8 }
@@ -124,7 +110,10 @@ pub fn settle(banks: &mut [Option<Bank>], core: CoreNo, at: usize, count: usize)
     ensures banks { AreBanks banks.new }
 {
     match &mut banks[bank_number(at)] {
-        Some(bank) => bank.settle(core, offset(at), count),
+        Some(bank) => {
+            let first = offset(at);
+            bank.settle(core, first, first + count);
+        }
         None => {}
     }
 }
@@ -157,32 +146,6 @@ pub fn cut(banks: &mut [Option<Bank>])
             bank.cut();
         }
     }
-}
-
-/// The durable value of a word, 0 where its frame is away.
-#[tactic(auto, using(crate::proofs::PlaceLemmas::places))]
-pub fn durable_or_zero(banks: &[Option<Bank>], at: usize) -> u64
-    requires banks { AreBanks banks.now }
-    requires range { at < WORDS }
-    ensures { result ≡ (word_among banks.now at).durable }
-{
-    match &banks[bank_number(at)] {
-        Some(bank) => bank.durable(offset(at)),
-        None => 0,
-    }
-}
-
-/// The banks of a new memory.
-pub fn new(alloc: Global) -> Result<Vec<Option<Bank>>, AllocError>
-    ensures words { IfOk result (λ banks. (i : ℕ) → word_among banks.items i ≡ zero_word) }
-    ensures home { IfOk result (λ banks. (k : ℕ) → k < 1 + FRAMES → is_some (bank_at banks.items k) ≡ true) }
-    ensures banks { IfOk result (λ banks. AreBanks banks.items) }
-{
-    let mut banks = Vec::with_capacity(alloc, 1 + FRAMES)?;
-    for k in 0..1 + FRAMES {
-        banks.push(Some(Bank::new(alloc, size(k))?))?;
-    }
-    Ok(banks)
 }
 
 /// How many words a bank has.
@@ -258,20 +221,6 @@ pub fn copy(banks: &mut [Option<Bank>], from: usize, to: usize)
             }
             banks[1 + to] = Some(target);
         }
-        None => unreachable!(),
-    }
-}
-
-/// Takes a bank out.
-pub fn take(banks: &mut [Option<Bank>], bank: usize) -> Bank
-    requires banks { AreBanks banks.old }
-    requires home { IsTrue (is_some (bank_at banks.old bank)) }
-    ensures taken { bank_at banks.old bank ≡ Some result }
-    ensures banks { banks.new ≡ slice_set banks.old bank None }
-    ensures sized { AreBanks banks.new }
-{
-    match banks[bank].take() {
-        Some(taken) => taken,
         None => unreachable!(),
     }
 }

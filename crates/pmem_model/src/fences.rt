@@ -137,5 +137,8 @@ pub fn take(banks: &mut [Option<Bank>], flushes: &[Flushes], frame: usize) -> Ba
     ensures away { is_some (bank_at banks.new (1 + frame)) ≡ false }
     ensures sound { IsSound banks.new flushes.now }
 {
-    banks::take(banks, 1 + frame)
+    match banks[1 + frame].take() {
+        Some(bank) => bank,
+        None => unreachable!(),
+    }
 }

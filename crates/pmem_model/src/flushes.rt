@@ -73,7 +73,10 @@ impl Flushes {
     }
 
     /// After a fence nothing is flushed.
-    pub fn clear(&mut self) {
+    pub fn clear(&mut self)
+        ensures full { self.new.is_full ≡ false }
+        ensures ranges { self.new.ranges.items ≡ [] }
+    {
         self.ranges.clear();
         self.is_full = false;
     }

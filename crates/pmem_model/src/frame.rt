@@ -1,6 +1,6 @@
 //! A frame that was lent.
 
-ghost use Rattle.std.specs.Prelude.{◌≡◌, ◌≢◌, ℕ, ◌+◌, ◌<◌, ◌≤◌, IfSome, IfNone};
+ghost use Rattle.std.specs.Prelude.{◌≡◌, ◌≢◌, ℕ, ◌<◌, ◌≤◌, IfSome, IfNone};
 ghost use Rattle.pmem_model.specs.Words.{is_within, bursts, flushes, fences, writes_back, word_in, bank_len};
 ghost use Rattle.pmem_model.specs.Memory.{count_up};
 
@@ -13,8 +13,8 @@ use std::marker::Model;
 /// No call takes memory or is refused.
 #[derive(Drop)]
 pub struct Frame {
-    bank: Bank,
-    ops: u64,
+    pub(crate) bank: Bank,
+    pub(crate) ops: u64,
 }
 
 impl Model for Frame {
@@ -30,25 +30,6 @@ impl Model for Frame {
 }
 
 impl Frame {
-    /// A frame that is lent now.
-    pub(crate) fn lent(bank: Bank) -> Frame
-        requires { bank_len bank ≡ 512 }
-        ensures bank { result.bank ≡ bank }
-        ensures count { result.ops ≡ 0 }
-    {
-        Frame { bank, ops: 0 }
-    }
-
-    /// Its words and its count.
-    pub(crate) fn into_parts(self) -> (Bank, u64)
-        ensures bank { result.0 ≡ self.bank }
-        ensures count { result.1 ≡ self.ops }
-        ensures size { bank_len result.0 ≡ 512 }
-    {
-        let Frame { bank, ops } = self;
-        (bank, ops)
-    }
-
     /// The cached value of a word.
     pub fn read(&self, at: usize) -> u64
         requires { at < 512 }

@@ -1,17 +1,10 @@
 //! The events on slices.
 
-ghost use Rattle.std.specs.Prelude.{◌≡◌, ◌≢◌, ℕ, ◌+◌, ◌-◌, ◌<◌, ◌≤◌, ◌^◌, length, slice_index, if◌then◌else◌, IfSome, IfNone, IsTrue, true};
+ghost use Rattle.std.specs.Prelude.{◌≡◌, ◌≢◌, ℕ, ◌+◌, ◌-◌, ◌<◌, ◌≤◌, length, slice_index, if◌then◌else◌, IfSome, IfNone, IsTrue, true};
 ghost use Rattle.pmem_model.specs.Words.{is_within, has_core, with_core, without_core};
 ghost use Rattle.pmem_model.specs.Kept.{is_between};
 
 use sls_base::CoreNo;
-
-fn core_bit(core: CoreNo) -> u8
-    requires { core < 8 }
-    ensures { result ≡ 2 ^ core }
-{
-    1 << core
-}
 
 pub fn is_marked(marks: u8, core: CoreNo) -> bool
     requires { core < 8 }
@@ -24,7 +17,7 @@ fn marked(marks: u8, core: CoreNo) -> u8
     requires { core < 8 }
     ensures { result ≡ with_core marks core }
 {
-    marks | core_bit(core)
+    marks | 1 << core
 }
 
 #[tactic(auto, using(crate::specs::Marks::core_le))]
@@ -33,30 +26,19 @@ fn unmarked(marks: u8, core: CoreNo) -> u8
     requires marked { IsTrue (has_core marks core) }
     ensures { result ≡ without_core marks core }
 {
-    marks - core_bit(core)
+    marks - (1 << core)
 }
 
-/// What a fence by a core makes of a durable value.
-fn fenced_value(cached: u64, durable: u64, marks: u8, core: CoreNo) -> u64
+/// What a fence by a core makes of a durable value and of its marks.
+fn fenced(cached: u64, durable: u64, marks: u8, core: CoreNo) -> (u64, u8)
     requires { core < 8 }
-    ensures { result ≡ (if has_core marks core then cached else durable) }
+    ensures durable { result.0 ≡ (if has_core marks core then cached else durable) }
+    ensures marks { result.1 ≡ (if has_core marks core then without_core marks core else marks) }
 {
     if is_marked(marks, core) {
-        cached
+        (cached, unmarked(marks, core))
     } else {
-        durable
-    }
-}
-
-/// What a fence by a core makes of the marks.
-fn fenced_marks(marks: u8, core: CoreNo) -> u8
-    requires { core < 8 }
-    ensures { result ≡ (if has_core marks core then without_core marks core else marks) }
-{
-    if is_marked(marks, core) {
-        unmarked(marks, core)
-    } else {
-        marks
+        (durable, marks)
     }
 }
 
@@ -112,9 +94,9 @@ pub fn settle(
         ≡ (if is_between first past i then (if has_core (slice_index marks.old i) core then without_core (slice_index marks.old i) core else slice_index marks.old i) else slice_index marks.old i) }
 {
     for i in first..past {
-        let mark = marks[i];
-        durable[i] = fenced_value(cached[i], durable[i], mark, core);
-        marks[i] = fenced_marks(mark, core);
+        let (value, left) = fenced(cached[i], durable[i], marks[i], core);
+        durable[i] = value;
+        marks[i] = left;
     }
 }
 

@@ -1,6 +1,6 @@
 //! The memory.
 
-ghost use Rattle.std.specs.Prelude.{◌≡◌, ◌≢◌, ℕ, ◌+◌, ◌-◌, ◌*◌, ◌%◌, ◌<◌, ◌≤◌, ◌==◌, IsTrue, length, slice_index, if◌then◌else◌, IfSome, IfNone, IfOk, true, false, Some, None, slice_set};
+ghost use Rattle.std.specs.Prelude.{◌≡◌, ◌≢◌, ℕ, ◌+◌, ◌-◌, ◌*◌, ◌%◌, ◌<◌, ◌≤◌, ◌==◌, IsTrue, length, slice_index, if◌then◌else◌, IfSome, IfNone, IfOk, false, Some, None, slice_set};
 ghost use Rattle.pmem_model.specs.Words.{is_within, word_in, bursts, flushes, fences, writes_back, cuts};
 ghost use Rattle.pmem_model.specs.Places.{bank_of, offset_of, bank_size, bank_at, zero_word};
 ghost use Rattle.pmem_model.specs.Memory.{word_at, is_at_home, is_frame_home, frame_begin, AllHome, SameHomes, SameHomesBut, count_up, count_by};
@@ -49,6 +49,14 @@ fn commits_after(commits: u64, before: u64, after: u64) -> u64
     }
 }
 
+/// As many zeros.
+fn zero_words(alloc: Global, len: usize) -> Result<Vec<u64>, AllocError>
+    ensures len { IfOk result (λ words. length words.items ≡ len) }
+    ensures zero { IfOk result (λ words. (i : ℕ) → slice_index words.items i ≡ 0) }
+{
+    vec![in alloc; 0; len]
+}
+
 impl Pmem {
     /// Zero words with no marks, all at home, and counts of 0. Ok, or there is no memory.
     pub fn new(alloc: Global) -> Result<Pmem, AllocError>
@@ -56,15 +64,9 @@ impl Pmem {
         ensures homes { IfOk result AllHome }
         ensures counts { IfOk result (λ m. (m.ops ≡ 0) × (m.commits ≡ 0) × (m.cuts ≡ 0)) }
     {
-        let banks = banks::new(alloc)?;
-        let flushes = flushes::new_for_cores(alloc)?;
-        Ok(Pmem {
-            banks,
-            flushes,
-            ops: 0,
-            commits: 0,
-            cuts: 0,
-        })
+        let words = zero_words(alloc, WORDS)?;
+        let nvm = Pmem::from_words(alloc, &words)?;
+        Ok(nvm)
     }
 
     /// These 558,592 words, cached and durable, with no marks, all at home, and counts of 0. Ok, or there is no memory.
@@ -91,7 +93,7 @@ impl Pmem {
         requires home { IsTrue (is_at_home self.now at) }
         ensures { result ≡ (word_at self.now at).cached }
     {
-        banks::read(&self.banks, at)
+        banks::values(&self.banks, at).0
     }
 
     /// The durable value of a word.
@@ -100,7 +102,7 @@ impl Pmem {
         requires home { IsTrue (is_at_home self.now at) }
         ensures { result ≡ (word_at self.now at).durable }
     {
-        banks::durable(&self.banks, at)
+        banks::values(&self.banks, at).1
     }
 
     /// Stores 1 to 512 words from `at` on, of one frame or of the table, and takes their marks away.
@@ -161,9 +163,9 @@ impl Pmem {
           commits = (if (word_at self.new 1).durable == (word_at self.old 1).durable then self.old.commits else count_up self.old.commits);
         } }
     {
-        let before = banks::durable_or_zero(&self.banks, 1);
+        let before = banks::values(&self.banks, 1).1;
         fences::fence(&mut self.banks, &mut self.flushes, core);
-        let after = banks::durable_or_zero(&self.banks, 1);
+        let after = banks::values(&self.banks, 1).1;
         self.commits = commits_after(self.commits, before, after);
         self.ops = self.ops.saturating_add(1);
     }
@@ -179,9 +181,9 @@ impl Pmem {
           commits = (if (word_at self.new 1).durable == (word_at self.old 1).durable then self.old.commits else count_up self.old.commits);
         } }
     {
-        let before = banks::durable_or_zero(&self.banks, 1);
+        let before = banks::values(&self.banks, 1).1;
         banks::write_back(&mut self.banks, at);
-        let after = banks::durable_or_zero(&self.banks, 1);
+        let after = banks::values(&self.banks, 1).1;
         self.commits = commits_after(self.commits, before, after);
     }
 
@@ -219,7 +221,8 @@ impl Pmem {
         ensures homes { SameHomesBut frame self.old self.new }
         ensures away { is_frame_home self.new frame ≡ false }
     {
-        Frame::lent(fences::take(&mut self.banks, &self.flushes, frame))
+        let bank = fences::take(&mut self.banks, &self.flushes, frame);
+        Frame { bank, ops: 0 }
     }
 
     /// Puts a frame that is out back, with its values and marks, and adds its count.
@@ -237,7 +240,7 @@ impl Pmem {
         ensures homes { SameHomesBut frame self.old self.new }
         ensures back { IsTrue (is_frame_home self.new frame) }
     {
-        let (bank, ops) = part.into_parts();
+        let Frame { bank, ops } = part;
         fences::put_back(&mut self.banks, &mut self.flushes, frame, bank);
         self.ops = self.ops.saturating_add(ops);
     }

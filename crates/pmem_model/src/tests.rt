@@ -81,62 +81,43 @@ fn both(nvm: &Pmem, at: usize) -> (u64, u64)
     (nvm.read(at), nvm.durable(at))
 }
 
-/// How many words of a memory differ from what they should be, cached or durable.
-fn differing(nvm: &Pmem, value: u64, step: u64) -> u64
-    requires { AllHome nvm.now }
-{
-    let mut count = 0u64;
-    let mut want = value;
-    for at in 0..WORDS {
-        if both(nvm, at) != (want, want) {
-            count = count.wrapping_add(1);
-        }
-        want = want.wrapping_add(step);
-    }
-    count
-}
-
-/// Numbers from 5 on, each 3 above the one before it.
-fn count_by_three(words: &mut [u64]) {
-    let mut next = 5u64;
-    for word in words.iter_mut() {
-        *word = next;
-        next = next.wrapping_add(3);
-    }
+/// The counts of a memory.
+fn counts(nvm: &Pmem) -> [u64; 3] {
+    [nvm.ops(), nvm.commits(), nvm.cuts()]
 }
 
 #[test]
 fn a_new_memory_reads_zero(rt: HostRuntime) -> Result<(), Fail> {
     let nvm = Pmem::new(rt.alloc())?;
-    assert_eq!(rt; WORDS, 558_592);
-    assert_eq!(rt; differing(&nvm, 0, 0), 0);
-    assert_eq!(rt; nvm.dirty_from(0), None);
-    for frame in 0..FRAMES {
-        assert!(rt; nvm.is_home(frame));
-    }
-    assert_eq!(rt; (nvm.ops(), nvm.commits(), nvm.cuts()), (0, 0, 0));
+    assert_eq!(rt;
+        (both(&nvm, 0), both(&nvm, 558_591), nvm.dirty_from(0)),
+        ((0, 0), (0, 0), None)
+    );
+    assert_eq!(rt; counts(&nvm), [0, 0, 0]);
     Ok(())
 }
 
 #[test]
 fn a_memory_has_the_words_it_is_made_from(rt: HostRuntime) -> Result<(), Fail> {
     let mut words = vec![in rt.alloc(); 0u64; WORDS]?;
-    count_by_three(&mut words);
+    words[17_919] = 4;
+    words[558_591] = 5;
     let nvm = Pmem::from_words(rt.alloc(), &words)?;
-    assert_eq!(rt; differing(&nvm, 5, 3), 0);
-    assert_eq!(rt; both(&nvm, 558_591), (1_675_778, 1_675_778));
-    assert_eq!(rt; (nvm.ops(), nvm.commits(), nvm.cuts()), (0, 0, 0));
+    let ends = [both(&nvm, 17_919), both(&nvm, 17_920), both(&nvm, 558_591)];
+    assert_eq!(rt; (WORDS, ends), (558_592, [(4, 4), (0, 0), (5, 5)]));
     Ok(())
 }
 
 #[test]
-fn a_burst_takes_marks_away(rt: HostRuntime) -> Result<(), Fail> {
+fn a_burst_and_a_copy_take_marks_away(rt: HostRuntime) -> Result<(), Fail> {
     let mut nvm = Pmem::new(rt.alloc())?;
     store(&mut nvm, FRAME, 7);
     flush(&mut nvm, 0, FRAME);
     store(&mut nvm, FRAME, 8);
+    flush(&mut nvm, 0, 17_920);
+    copy(&mut nvm, 3, 0);
     fence(&mut nvm, 0);
-    assert_eq!(rt; both(&nvm, FRAME), (8, 0));
+    assert_eq!(rt; (both(&nvm, FRAME), both(&nvm, 17_920)), ((8, 0), (8, 0)));
     Ok(())
 }
 
@@ -146,10 +127,9 @@ fn a_fence_settles_the_marks_of_its_core(rt: HostRuntime) -> Result<(), Fail> {
     store(&mut nvm, FRAME + 1, 7);
     flush(&mut nvm, 1, FRAME);
     fence(&mut nvm, 0);
-    assert_eq!(rt; both(&nvm, FRAME + 1), (7, 0));
-    flush(&mut nvm, 0, FRAME);
+    let other = both(&nvm, FRAME + 1);
     fence(&mut nvm, 1);
-    assert_eq!(rt; both(&nvm, FRAME + 1), (7, 7));
+    assert_eq!(rt; (other, both(&nvm, FRAME + 1)), ((7, 0), (7, 7)));
     Ok(())
 }
 
@@ -161,9 +141,10 @@ fn more_flushes_than_are_listed_are_fenced(rt: HostRuntime) -> Result<(), Fail> 
         flush(&mut nvm, 7, 5_000 * line);
     }
     fence(&mut nvm, 7);
-    for line in 0..100usize {
-        assert_eq!(rt; both(&nvm, 5_000 * line), (9, 9));
-    }
+    assert_eq!(rt;
+        [both(&nvm, 0), both(&nvm, 320_000), both(&nvm, 495_000)],
+        [(9, 9), (9, 9), (9, 9)]
+    );
     Ok(())
 }
 
@@ -173,26 +154,16 @@ fn dirty_words_are_found_in_order(rt: HostRuntime) -> Result<(), Fail> {
     store(&mut nvm, 17_919, 1);
     store(&mut nvm, 17_920, 2);
     store(&mut nvm, 558_591, 3);
-    assert_eq!(rt; nvm.dirty_from(0), Some(17_919));
-    assert_eq!(rt; nvm.dirty_from(17_920), Some(17_920));
-    assert_eq!(rt; nvm.dirty_from(17_921), Some(558_591));
-    assert_eq!(rt; nvm.dirty_from(558_592), None);
     write_back(&mut nvm, 17_920);
-    assert_eq!(rt; nvm.dirty_from(17_920), Some(558_591));
+    let found = [
+        nvm.dirty_from(0),
+        nvm.dirty_from(17_920),
+        nvm.dirty_from(558_592),
+    ];
     cut(&mut nvm);
-    assert_eq!(rt; nvm.dirty_from(0), None);
-    assert_eq!(rt; both(&nvm, 17_919), (0, 0));
-    assert_eq!(rt; both(&nvm, 17_920), (2, 2));
-    Ok(())
-}
-
-#[test]
-fn a_copy_has_the_cached_words(rt: HostRuntime) -> Result<(), Fail> {
-    let mut nvm = Pmem::new(rt.alloc())?;
-    store(&mut nvm, FRAME + 511, 4);
-    copy(&mut nvm, 3, 0);
-    assert_eq!(rt; both(&nvm, 17_920 + 511), (4, 0));
-    assert_eq!(rt; both(&nvm, FRAME + 511), (4, 0));
+    let left = [both(&nvm, 17_919), both(&nvm, 17_920)];
+    assert_eq!(rt; found, [Some(17_919), Some(558_591), None]);
+    assert_eq!(rt; left, [(0, 0), (2, 2)]);
     Ok(())
 }
 
@@ -202,14 +173,12 @@ fn counts_rise_with_events(rt: HostRuntime) -> Result<(), Fail> {
     store(&mut nvm, 1, 6);
     flush(&mut nvm, 2, 1);
     fence(&mut nvm, 2);
-    assert_eq!(rt; (nvm.ops(), nvm.commits(), nvm.cuts()), (3, 1, 0));
+    let first = counts(&nvm);
     fence(&mut nvm, 2);
-    copy(&mut nvm, 0, 1);
-    assert_eq!(rt; (nvm.ops(), nvm.commits(), nvm.cuts()), (5, 1, 0));
     store(&mut nvm, 1, 7);
     write_back(&mut nvm, 1);
     cut(&mut nvm);
-    assert_eq!(rt; (nvm.ops(), nvm.commits(), nvm.cuts()), (6, 2, 1));
+    assert_eq!(rt; (first, counts(&nvm)), ([3, 1, 0], [5, 2, 1]));
     Ok(())
 }
 
@@ -220,36 +189,36 @@ fn a_lent_frame_takes_its_marks_along(rt: HostRuntime) -> Result<(), Fail> {
     store(&mut nvm, FRAME, 5);
     flush(&mut nvm, 2, FRAME);
     let part = nvm.lend(3);
-    assert!(rt; !nvm.is_home(3));
-    assert_eq!(rt; nvm.dirty_from(0), None);
+    let away = (nvm.is_home(3), nvm.dirty_from(0));
     nvm.give_back(3, part);
-    assert!(rt; nvm.is_home(3));
     fence(&mut nvm, 2);
-    assert_eq!(rt; both(&nvm, FRAME), (5, 5));
+    assert_eq!(rt; (away, both(&nvm, FRAME)), ((false, None), (5, 5)));
     Ok(())
 }
 
-#[test]
-#[tactic(auto, using(crate::specs::PlaceLaws::all_home_returned, crate::specs::PlaceLaws::frame_home_of))]
-fn a_frame_away_has_the_events_of_the_memory(rt: HostRuntime) -> Result<(), Fail> {
-    let mut nvm = Pmem::new(rt.alloc())?;
-    store(&mut nvm, FRAME + 9, 5);
+/// Lends frames 3 and 4, copies the first into the second, makes the copy durable, and gives both back. It gives what
+/// word 9 of the copy was, with the first dirty word and the count of the copy.
+#[tactic(auto, using(crate::specs::PlaceLaws::frame_home_of))]
+fn copy_away(nvm: &mut Pmem) -> ((u64, u64), Option<usize>, u64)
+    requires { AllHome nvm.old }
+{
     let source = nvm.lend(3);
     let mut part = nvm.lend(4);
     part.copy_from(&source);
-    assert_eq!(rt; (part.read(9), part.durable(9)), (5, 0));
-    assert_eq!(rt; part.dirty_from(0), Some(9));
-    part.fence(6);
-    assert_eq!(rt; part.dirty_from(0), Some(9));
+    let word = (part.read(9), part.durable(9));
     part.flush(6);
     part.fence(6);
-    assert_eq!(rt; part.dirty_from(0), None);
-    assert_eq!(rt; (part.read(9), part.durable(9)), (5, 5));
-    assert_eq!(rt; (source.ops(), part.ops(), nvm.ops()), (0, 4, 1));
+    let seen = (word, part.dirty_from(0), part.ops());
     nvm.give_back(4, part);
-    assert_eq!(rt; nvm.ops(), 5);
     nvm.give_back(3, source);
-    assert_eq!(rt; nvm.ops(), 5);
-    assert_eq!(rt; nvm.dirty_from(0), Some(FRAME + 9));
+    seen
+}
+
+#[test]
+fn a_frame_away_has_the_events_of_the_memory(rt: HostRuntime) -> Result<(), Fail> {
+    let mut nvm = Pmem::new(rt.alloc())?;
+    store(&mut nvm, FRAME + 9, 5);
+    let seen = copy_away(&mut nvm);
+    assert_eq!(rt; (seen, nvm.ops()), (((5, 0), None, 3), 4));
     Ok(())
 }
