@@ -1,8 +1,9 @@
 -- What a machine is about, as a caller sees it, and which answers are lawful.
-use Rattle.std.specs.Prelude.{◌≡◌, ◌≢◌, ◌⊎◌, ℕ, ◌+◌, ◌<◌, ◌≤◌, true, false, Option, Some, None}
+use Rattle.std.proofs.Common.{◌≡◌, ◌≢◌, ◌⊎◌, ℕ, ◌+◌, ◌-◌, ◌<◌, ◌≤◌, ◌↔◌, nat_lt, true, false, IsTrue, Option, Some, None, refl, arith}
+use Rattle.std.proofs.lemmas.Bool.Decides.{nat_tests}
 use Rattle.sls_base.specs.declared.limits.TheConstants.{LAST_VERSION}
 use Rattle.sls_kernel.specs.Plain.{World, tick, commit, is_stopped}
-use Rattle.sls_kernel.specs.Stages.{left_of}
+use Rattle.sls_kernel.specs.Stages.{is_stage, left_of}
 use Rattle.sls_kernel.specs.declared.machine.Machine.{Machine}
 use Rattle.sls_kernel.specs.declared.answers.Did.{Did}
 use Rattle.sls_kernel.specs.declared.answers.Did.TheVariants as did
@@ -10,6 +11,7 @@ use Rattle.sls_kernel.specs.declared.answers.Why.{Why}
 use Rattle.sls_kernel.specs.declared.answers.Why.TheVariants as why
 use Rattle.sls_kernel.specs.declared.answers.Asked.{Asked}
 use Rattle.sls_kernel.specs.declared.answers.Asked.TheVariants as asked
+use Rattle.sls_kernel.specs.declared.stage.FormatStep.TheVariants.{Fill, Save as FormatSave, StoreWord, FlushWord, FenceWord}
 use Rattle.sls_kernel.specs.declared.stage.Stage.{Stage}
 use Rattle.sls_kernel.specs.declared.stage.Stage.TheVariants.{Format, Recover, Up, Checkpoint}
 use Rattle.sls_kernel.specs.declared.stage.CheckpointStep.{CheckpointStep}
@@ -109,3 +111,26 @@ IsLawfulAsked w asked.Started = w.version < LAST_VERSION
 IsLawfulAsked w asked.InFlight = Unit {0}
 IsLawfulAsked w (asked.VersionSpent v) = (v ≡ w.version) × (v ≡ LAST_VERSION)
 IsLawfulAsked w asked.Memory = ⊥
+
+-- Law: no turn is left exactly where a machine runs, in no checkpoint.
+some_left : (page : ℕ) → IsTrue (nat_lt page 5) → 5 - page ≢ 0
+some_left page below = grind (arith, nat_tests)
+
+stage_ends : (stage : Stage) → IsTrue (is_stage stage) → (left_of stage ≡ 0) ↔ (mode_of stage ≡ Running)
+stage_ends (Format Fill) is = (λ none. absurd (omega arith), λ runs. cc)
+stage_ends (Format (FormatSave step)) is = (λ none. absurd (omega arith), λ runs. cc)
+stage_ends (Format StoreWord) is = (λ none. absurd (omega arith), λ runs. cc)
+stage_ends (Format FlushWord) is = (λ none. absurd (omega arith), λ runs. cc)
+stage_ends (Format FenceWord) is = (λ none. absurd (omega arith), λ runs. cc)
+stage_ends (Recover page) is = (λ none. absurd (some_left page is none), λ runs. cc)
+stage_ends Up is = (λ none. refl, λ runs. refl)
+stage_ends (Checkpoint (Save step)) is = (λ none. absurd (omega arith), λ runs. cc)
+stage_ends (Checkpoint StoreVersion) is = (λ none. absurd (omega arith), λ runs. cc)
+stage_ends (Checkpoint FlushVersion) is = (λ none. absurd (omega arith), λ runs. cc)
+stage_ends (Checkpoint FenceVersion) is = (λ none. absurd (omega arith), λ runs. cc)
+stage_ends (Checkpoint FlushAgain) is = (λ none. absurd (omega arith), λ runs. cc)
+stage_ends (Checkpoint FenceAgain) is = (λ none. absurd (omega arith), λ runs. cc)
+
+pub left_ends : (m : Machine) → (left m ≡ 0) ↔ (mode m ≡ Running)
+unfolding left mode
+left_ends m = stage_ends m.stage m.staged

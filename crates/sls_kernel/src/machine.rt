@@ -179,6 +179,7 @@ impl Machine {
         ensures fewer { (mode self.old ≡ Running) ⊎ (left self.new < left self.old) }
         ensures image { image_of self.new ≡ image_of self.old }
         ensures world { (w : World) → Shows self.old w → IsLawful w result × Shows self.new (turned w result) }
+        ensures end { (left self.new ≡ 0) ↔ (mode self.new ≡ Running) }
     {
         match self.stage {
             Stage::Format(step) => self.format(step),
