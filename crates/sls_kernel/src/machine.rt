@@ -335,7 +335,7 @@ impl Machine {
         ensures words { (i : ℕ) → word_at (memory_of self.new) i ≡ writes_back (is_within word 1) (word_at (memory_of self.old)) i }
         ensures none { IfNone result ((mode self.new ≡ mode self.old) × (left self.new ≡ left self.old)) }
         ensures commit { IfSome result (λ v. (mode self.old ≡ BeforeCommit) × (mode self.new ≡ AfterCommit) × (left self.old ≤ 2)) }
-        ensures no_more { left self.new ≤ left self.old }
+        ensures left { left self.new ≡ left self.old }
         ensures image { image_of self.new ≡ image_of self.old }
         ensures world { (w : World) → Shows self.old w → IsWritten w result × Shows self.new (written w result) }
     {
