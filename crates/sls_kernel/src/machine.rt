@@ -144,6 +144,7 @@ impl Machine {
         ensures stands { (w : World) → Shows self.now w
             → Stands (durable_words result.now) (accepted_count w) w.saved ⊎ IsUnformatted (durable_words result.now) w }
         ensures released { (w : World) → Shows self.now w → (channel : ℕ) → IsPrefixOf (w.released channel) (w.saved.out channel) }
+        ensures home { AllHome result.now }
     {
         &self.nvm
     }
