@@ -410,6 +410,7 @@ impl Machine {
 #[tactic(auto, unfolding(crate::specs::Side::mode, crate::specs::Side::left, crate::specs::Shows::image_of, crate::specs::Shows::memory_of, crate::specs::Shows::accepted_of))]
 impl Off {
     ghost use Rattle.std.specs.Prelude.{◌≢◌, ◌⊎◌, ◌≤◌, ℕ, IfOk, IfErr};
+    ghost use Rattle.sls_base.specs.declared.limits.TheConstants.{CORES};
     ghost use Rattle.sls_kernel.specs.Plain.{World, first};
     ghost use Rattle.sls_kernel.specs.Program.{IsOfCode, program_bytes};
     ghost use Rattle.sls_kernel.specs.Shows.{Shows, ShowsOff, durable_words, image_of, memory_of};
@@ -418,11 +419,13 @@ impl Off {
     /// Gives the power back: the machine recovers from its memory, or formats it again where it was cut within
     /// formatting, by turns of core 0 until it is up. The only refusal is want of memory, and gives this value back.
     ///
-    /// The image is the one that the memory was formatted with; it is looked at only where formatting begins again.
+    /// The image is the one that the memory was formatted with, and there is one core. Both are ignored unless formatting
+    /// begins again.
     pub fn light(self, alloc: Global, image: &Image, cores: u8) -> Result<Machine, LightRefused>
         requires home { AllHome self.nvm }
         requires image { durable_words self.nvm 0 ≡ 0 → IsOfCode image.now }
-        requires one_core { cores ≡ 1 }
+        requires cores { (1 ≤ cores) × (cores ≤ CORES) }
+        requires one_core { durable_words self.nvm 0 ≡ 0 → cores ≡ 1 }
         ensures mode { IfOk result (λ m. (mode m ≡ Formatting) ⊎ (mode m ≡ Recovering)) }
         ensures fewer { IfOk result (λ m. left m ≤ 17) }
         ensures image_is { IfOk result (λ m. image_of m ≡ program_bytes image.now) }
