@@ -9,12 +9,11 @@ use Rattle.std.proofs.lemmas.Nat.{from_le_bytes-to_le_bytes_8}
 use Rattle.sls_base.specs.declared.limits.TheConstants.{PAGE_BYTES, PAGE_WORDS, FRAME_WORDS}
 use Rattle.pmem_model.specs.Words.{Word}
 use Rattle.pmem_model.specs.Memory.{word_at}
-use Rattle.pmem_model.specs.Places.{zero_word}
 use Rattle.pmem_model.specs.Events.{Any, Cached, Clean, WordIs}
 use Rattle.sls_kernel.specs.Words.{byte_of, IsRing, IsThread, Tells, running_place, area_of, record_word}
 use Rattle.sls_kernel.specs.Plain.{State, World, initial, first, accepted_count}
 use Rattle.sls_kernel.specs.Program.{page_bytes}
-use Rattle.sls_kernel.specs.Shows.{Shows, ShowsOff, Stands, AreState, area_words, durable_words, first_words, MayBeFormatted, IsUnformatted, IsCounted, WordsShow, IsRunning, IsFirst, IsRecovering, AtStage}
+use Rattle.sls_kernel.specs.Shows.{Shows, ShowsOff, Stands, AreState, area_words, durable_words, first_words, MayBeFormatted, IsUnformatted, IsCounted, WordsShow, IsRunning, IsFirst, IsRecovering, AtStage, IsZero}
 use Rattle.sls_kernel.specs.Stages.{running_kind}
 use Rattle.sls_kernel.specs.declared.stage.FormatStep.TheVariants.{Fill}
 use Rattle.sls_kernel.specs.declared.stage.Stage.{Stage}
@@ -174,12 +173,10 @@ shows_first m commits cuts begins none same_commits same_cuts clean unformatted 
     }
 
 -- it does on a memory of zero words
-pub boots : (m : Machine) (byte : ℕ → ℕ) → Begins m → m.accepted ≡ replicate 4 0 → page_bytes m.program.items ≡ byte → ((i : ℕ) → word_at m.nvm i ≡ zero_word) → Shows m (first byte m.nvm.commits m.nvm.cuts)
+pub boots : (m : Machine) (byte : ℕ → ℕ) → Begins m → m.accepted ≡ replicate 4 0 → page_bytes m.program.items ≡ byte → ((i : ℕ) → IsZero (word_at m.nvm i)) → Shows m (first byte m.nvm.commits m.nvm.cuts)
 boots m byte begins none same zero =
-    let durable : (i : ℕ) → (word_at m.nvm i).durable ≡ 0 = λ i. ap (λ (w : Word). w.durable) (zero i) in
-    let cached : (i : ℕ) → (word_at m.nvm i).cached ≡ 0 = λ i. ap (λ (w : Word). w.cached) (zero i) in
     subst (λ (f : ℕ → ℕ). Shows m (first f m.nvm.commits m.nvm.cuts)) same
-    (shows_first m _ _ begins (λ channel h. rw none (zeros 4 channel)) refl refl (λ i. cached i ∙ sym (durable i)) (durable 0) (λ i. inl (durable i)))
+    (shows_first m _ _ begins (λ channel h. rw none (zeros 4 channel)) refl refl (λ i. (zero i).0 ∙ sym (zero i).1) (zero 0).1 (λ i. inl (zero i).1))
 
 -- and on a memory that was cut within formatting
 formats_again : (m : Machine) (w : World) → Begins m → ShowsOff (record { nvm = m.nvm; accepted = m.accepted }) w → IsUnformatted (durable_words m.nvm) w → w ≡ first (page_bytes m.program.items) w.commits w.cuts → Shows m w

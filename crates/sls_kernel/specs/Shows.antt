@@ -43,6 +43,10 @@ pub record Stands (durable : ℕ → ℕ) (accepted : ℕ → ℕ) (s : State) :
 abbrev pub durable_words : Memory → ℕ → ℕ
 durable_words m i = (word_at m i).durable
 
+-- a word reads zero, and zero is durable
+abbrev pub IsZero : Word → Type 0
+IsZero w = (w.cached ≡ 0) × (w.durable ≡ 0)
+
 -- Formatting.
 
 -- the words that a program begins with: its page, the record of its thread, and empty rings

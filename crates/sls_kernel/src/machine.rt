@@ -66,10 +66,9 @@ impl Machine {
     ghost use Rattle.sls_base.specs.declared.entry.Entry.{Entry};
     ghost use Rattle.pmem_model.specs.Words.{is_within, writes_back, cuts};
     ghost use Rattle.pmem_model.specs.Memory.{word_at};
-    ghost use Rattle.pmem_model.specs.Places.{zero_word};
     ghost use Rattle.sls_kernel.specs.Plain.{World, first, cut, accept, offered, accepted_count, one_more};
     ghost use Rattle.sls_kernel.specs.Program.{IsOfCode, program_bytes};
-    ghost use Rattle.sls_kernel.specs.Shows.{Shows, ShowsOff, Stands, IsUnformatted, IsPrefixOf, durable_words, image_of, memory_of, accepted_of};
+    ghost use Rattle.sls_kernel.specs.Shows.{Shows, ShowsOff, Stands, IsUnformatted, IsPrefixOf, IsZero, durable_words, image_of, memory_of, accepted_of};
     ghost use Rattle.sls_kernel.specs.Side.{Mode, Formatting, Recovering, Running, BeforeCommit, AfterCommit, mode, left, IsServing, ModeGoes, turned, IsLawful, written, IsWritten, AskGoes, IsLawfulAsked};
     ghost use Rattle.sls_kernel.specs.declared.stage.Stage.TheVariants as stage;
 
@@ -80,7 +79,7 @@ impl Machine {
     pub fn boot(alloc: Global, image: &Image, cores: u8, nvm: Pmem) -> Result<Machine, BootRefused>
         requires image { IsOfCode image.now }
         requires one_core { cores ≡ 1 }
-        requires zero { (i : ℕ) → word_at nvm i ≡ zero_word }
+        requires zero { (i : ℕ) → IsZero (word_at nvm i) }
         requires home { AllHome nvm }
         ensures mode { IfOk result (λ m. mode m ≡ Formatting) }
         ensures left { IfOk result (λ m. left m ≡ 17) }
