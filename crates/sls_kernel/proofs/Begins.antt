@@ -1,5 +1,5 @@
 -- The words that a machine begins with.
-use Rattle.std.proofs.Common.{◌≡◌, ◌≢◌, ℕ, ◌+◌, ◌*◌, ◌/◌, ◌%◌, ◌^◌, ◌<◌, ◌==◌, inl, inr, false, List, [], length, replicate, slice_index, nat_lt, if◌then◌else◌, arith, refl, sym, ap, subst, ◌∙◌}
+use Rattle.std.proofs.Common.{◌≡◌, ◌≢◌, ℕ, ◌+◌, ◌*◌, ◌/◌, ◌%◌, ◌^◌, ◌<◌, ◌≤◌, ◌==◌, inl, inr, false, List, [], length, replicate, slice_index, nat_lt, if◌then◌else◌, arith, refl, sym, ap, subst, ◌∙◌}
 use Rattle.std.specs.Int.{w64, to_le_bytes, from_le_bytes}
 use Rattle.std.proofs.lemmas.Grind.{common_steps}
 use Rattle.std.proofs.lemmas.Bool.{cases_lt, cond_below, cond_above}
@@ -10,7 +10,7 @@ use Rattle.sls_base.specs.declared.limits.TheConstants.{PAGE_BYTES, PAGE_WORDS, 
 use Rattle.pmem_model.specs.Words.{Word}
 use Rattle.pmem_model.specs.Memory.{word_at}
 use Rattle.pmem_model.specs.Events.{Any, Cached, Clean, WordIs}
-use Rattle.sls_kernel.specs.Words.{byte_of, IsRing, IsThread, Tells, running_place, area_of, record_word}
+use Rattle.sls_kernel.specs.Words.{byte_of, IsRing, IsThread, Tells, running_place, area_place, area_of, part_words, record_word}
 use Rattle.sls_kernel.specs.Plain.{State, World, initial, first, accepted_count}
 use Rattle.sls_kernel.specs.Program.{page_bytes}
 use Rattle.sls_kernel.specs.Shows.{Shows, ShowsOff, Stands, AreState, area_words, durable_words, first_words, MayBeFormatted, IsUnformatted, IsCounted, WordsShow, IsRunning, IsFirst, IsRecovering, AtStage, IsZero}
@@ -19,6 +19,8 @@ use Rattle.sls_kernel.specs.declared.stage.FormatStep.TheVariants.{Fill}
 use Rattle.sls_kernel.specs.declared.stage.Stage.{Stage}
 use Rattle.sls_kernel.specs.declared.stage.Stage.TheVariants.{Format, Recover}
 use Rattle.sls_kernel.specs.declared.machine.Machine.{Machine}
+use Rattle.sls_kernel.specs.declared.record.TheConstants.{RECORD_WORDS}
+use Rattle.sls_kernel.proofs.Facts.{IsRestZero}
 
 -- Bytes.
 
@@ -50,6 +52,9 @@ same_words xs ys small_xs small_ys same i =
 
 -- Formatting.
 
+not_part : (area part o i : ℕ) → area < 2 → part < 6 → o < part_words part → RECORD_WORDS ≤ i → i < FRAME_WORDS → area_place area 5 i ≡ area_place 0 part o → ⊥
+not_part area part o i a p inside low high at = grind (arith, nat_tests)
+
 -- a word before the program's page is zero, but the format word
 zero_before : (program : List ℕ) (i x : ℕ) → 0 < i → i < running_place 4 0 → MayBeFormatted program i x → x ≡ 0
 zero_before program i x some before may =
@@ -58,6 +63,16 @@ zero_before program i x some before may =
       | inr (inl format) ↦ absurd (omega arith)
       | inr (inr (inl page)) ↦ absurd (omega arith)
       | inr (inr (inr part)) ↦ absurd (omega arith)
+    ]
+
+-- a word behind a record is zero
+zero_rest : (program : List ℕ) (area i x : ℕ) → area < 2 → RECORD_WORDS ≤ i → i < FRAME_WORDS → MayBeFormatted program (area_place area 5 i) x → x ≡ 0
+zero_rest program area i x a low high may =
+    elim may [
+      | inl zero ↦ zero
+      | inr (inl format) ↦ absurd (omega arith)
+      | inr (inr (inl page)) ↦ absurd (omega arith)
+      | inr (inr (inr part)) ↦ absurd (not_part area part.0 part.1 i a part.2 part.3 low high part.4)
     ]
 
 same_first : (xs ys : List ℕ) → ((i : ℕ) → slice_index xs i ≡ slice_index ys i) → (part i : ℕ) → first_words xs part i ≡ first_words ys part i
@@ -101,6 +116,7 @@ fill_words program f clean unformatted may =
       saved_area = λ part i h k. tt;
       other_area = λ part i h k. tt;
       running = ring_kind program f (λ i some before. clean i ∙ zero i some before);
+      record_rest = λ area i a low high. is_clean (area_place area 5 i) (zero_rest program area i _ a low high (may (area_place area 5 i)));
     }
 
 -- The first state.
@@ -203,8 +219,8 @@ saved_words_of : (durable accepted : ℕ → ℕ) (s : State) (v : ℕ) → dura
 saved_words_of durable accepted s v e stands = subst (λ (n : ℕ). AreState (area_words durable (area_of n)) accepted s) e stands.area
 
 -- what recovery begins with is known of clean words that stand for a state
-recover_words : (f : ℕ → Word) (accepted : ℕ → ℕ) (s : State) (v : ℕ) (now : ℕ → ℕ → ℕ) → ((i : ℕ) → (f i).cached ≡ (f i).durable) → (f 1).durable ≡ v → Stands (λ i. (f i).durable) accepted s → WordsShow (Recover 0) f v now (area_words (λ i. (f i).durable) (area_of v))
-recover_words f accepted s v now clean version stands = record {
+recover_words : (f : ℕ → Word) (accepted : ℕ → ℕ) (s : State) (v : ℕ) (now : ℕ → ℕ → ℕ) → ((i : ℕ) → (f i).cached ≡ (f i).durable) → (f 1).durable ≡ v → IsRestZero f → Stands (λ i. (f i).durable) accepted s → WordsShow (Recover 0) f v now (area_words (λ i. (f i).durable) (area_of v))
+recover_words f accepted s v now clean version rest stands = record {
   format = (clean 0 ∙ stands.formatted, stands.formatted);
   version = (clean 1 ∙ version, version);
   version_durable = version;
@@ -212,6 +228,7 @@ recover_words f accepted s v now clean version stands = record {
   saved_area = λ part i h k. (clean _, refl);
   other_area = λ part i h k. tt;
   running = λ page i h k. rw (recover_kind page) tt;
+  record_rest = rest;
 }
 
 recovers : (m : Machine) (w : World) → m.stage ≡ Recover 0 → ShowsOff (record { nvm = m.nvm; accepted = m.accepted }) w → Stands (durable_words m.nvm) (accepted_count w) w.saved → Shows m w
@@ -219,13 +236,14 @@ recovers m w is off stands =
     let durable = durable_words m.nvm in
     let words = area_words durable (area_of w.version) in
     let saved : AreState words (accepted_count w) w.saved = saved_words_of durable (accepted_count w) w.saved w.version off.version stands in
+    let rest : IsRestZero (word_at m.nvm) = λ area i a low high. (off.clean (area_place area 5 i) ∙ off.record_rest area i a low high, off.record_rest area i a low high) in
     let is_recovering : IsRecovering w words words = record { words = refl; world = off.now } in
     record {
       now_words = words;
       saved_words = words;
       now_is = subst (λ (s : State). AreState words (accepted_count w) s) (sym off.now) saved;
       saved_is = saved;
-      words = rw is (recover_words (word_at m.nvm) (accepted_count w) w.saved w.version words off.clean off.version stands);
+      words = rw is (recover_words (word_at m.nvm) (accepted_count w) w.saved w.version words off.clean off.version rest stands);
       counted = off.counted;
       counts = off.counts;
       stage = subst (λ (s : Stage). AtStage s m w words words) (sym is) is_recovering;

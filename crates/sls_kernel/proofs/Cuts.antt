@@ -7,6 +7,7 @@ use Rattle.sls_kernel.specs.Plain.{World, first, cut, accepted_count, one_more}
 use Rattle.sls_kernel.specs.Program.{page_bytes}
 use Rattle.sls_kernel.specs.Shows.{Shows, ShowsOff, Stands, IsUnformatted, WordsShow, AtStage, durable_words}
 use Rattle.sls_kernel.specs.Side.{Formatting, mode_of}
+use Rattle.sls_kernel.specs.Words.{area_place}
 use Rattle.sls_kernel.specs.declared.machine.Machine.{Machine}
 use Rattle.sls_kernel.specs.declared.stage.Stage.{Stage}
 use Rattle.sls_kernel.specs.declared.stage.Stage.TheVariants.{Format, Recover, Up, Checkpoint}
@@ -35,6 +36,7 @@ shows_off m n w s words commits cuts = record {
   counted = counted_cut m.accepted w s.counted;
   counts = record { commits = commits ∙ s.counts.commits; cuts = cuts ∙ ap count_up s.counts.cuts };
   now = refl;
+  record_rest = λ area i a low high. ap (λ (u : Word). u.durable) (words (area_place area 5 i)) ∙ (s.words.record_rest area i a low high).1;
 }
 
 first_at : (m : Machine) (w : World) (stage : Stage) (now saved : ℕ → ℕ → ℕ) → WordsShow stage (word_at m.nvm) w.version now saved → AtStage stage m w now saved → (word_at m.nvm 0).durable ≡ 0 → w ≡ first (page_bytes m.program.items) w.commits w.cuts

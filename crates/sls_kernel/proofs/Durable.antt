@@ -1,5 +1,5 @@
 -- What is durable at every moment: the saved state, or the words of a memory that isn't formatted yet.
-use Rattle.std.proofs.Common.{◌≡◌, ◌⊎◌, inl, inr, ℕ, ◌+◌, ◌*◌, ◌/◌, ◌%◌, ◌<◌, ◌≤◌, ◌∙◌, ap, sym, subst, arith, List, [], slice_index_or}
+use Rattle.std.proofs.Common.{◌≡◌, ◌⊎◌, inl, inr, ℕ, ◌+◌, ◌*◌, ◌/◌, ◌%◌, ◌<◌, ◌≤◌, ◌∙◌, ◌++◌, ap, sym, subst, arith, List, [], length, length-append, slice_index_or}
 use Rattle.sls_base.specs.declared.limits.TheConstants.{TABLE_WORDS, FRAME_WORDS, LAST_VERSION, RING_ENTRIES}
 use Rattle.pmem_model.specs.Words.{Word}
 use Rattle.pmem_model.specs.Memory.{word_at}
@@ -8,8 +8,9 @@ use Rattle.sls_kernel.specs.Plain.{State, World, accepted_count}
 use Rattle.sls_kernel.specs.Areas.{PartsAre}
 use Rattle.sls_kernel.specs.Words.{Holds, IsPage, IsRing, IsEntry, byte_of, area_place, area_of, part_words}
 use Rattle.sls_kernel.specs.Stages.{format_word}
-use Rattle.sls_kernel.specs.Shows.{Shows, Stands, IsUnformatted, durable_words, area_words, AreState, WordsShow, AtStage, IsFirst}
+use Rattle.sls_kernel.specs.Shows.{Shows, Stands, IsUnformatted, IsPrefixOf, durable_words, area_words, put_count, AreState, WordsShow, AtStage, IsFirst}
 use Rattle.sls_kernel.specs.declared.machine.Machine.{Machine}
+use Rattle.sls_kernel.specs.declared.record.TheConstants.{RECORD_WORDS}
 use Rattle.sls_kernel.specs.declared.stage.Stage.{Stage}
 use Rattle.sls_kernel.specs.declared.stage.Stage.TheVariants.{Format, Recover, Up, Checkpoint}
 use Rattle.sls_kernel.specs.declared.stage.FormatStep.TheVariants.{Fill, Save, StoreWord, FlushWord, FenceWord}
@@ -53,17 +54,27 @@ state_along words words' accepted s same is = record {
   thread_record = λ i lt. same 5 i (omega arith) lt ∙ is.thread_record i lt;
 }
 
+-- a prefix is no longer than the list
+prefix_length : (xs ys : List (List ℕ)) → IsPrefixOf xs ys → length xs ≤ length ys
+prefix_length xs ys (rest, e) = let all = ap length e in let both = length-append xs rest in omega arith
+
+area_below : (v : ℕ) → area_of v < 2
+area_below v = omega arith
+
 -- The saved area is durable.
 
 pub stands_of : (f : ℕ → Word) (v : ℕ) (saved : ℕ → ℕ → ℕ) (accepted : ℕ → ℕ) (s : State) → (f 0).durable ≡ format_word → (f 1).durable ≡ v → v ≤ LAST_VERSION
     → ((i : ℕ) → 2 ≤ i → i < TABLE_WORDS → WordIs 0 Clean (f i) 0) → PartsAre (λ part. Clean) f (area_place (area_of v)) saved → AreState saved accepted s
+    → ((i : ℕ) → RECORD_WORDS ≤ i → i < FRAME_WORDS → (f (area_place (area_of v) 5 i)).durable ≡ 0) → ((channel : ℕ) → channel < 4 → accepted channel ≤ put_count s channel)
     → Stands (λ i. (f i).durable) accepted s
-stands_of f v saved accepted s formatted version fits table area is = record {
+stands_of f v saved accepted s formatted version fits table area is rest put = record {
   formatted = formatted;
   in_range = subst (λ (x : ℕ). x ≤ LAST_VERSION) (sym version) fits;
   table = λ i low high. (table i low high).1;
   area = subst (λ (x : ℕ). AreState (area_words (λ i. (f i).durable) (area_of x)) accepted s) (sym version)
       (state_along saved (area_words (λ i. (f i).durable) (area_of v)) accepted s (λ part i p lt. (area part i p lt).1) is);
+  record_rest = subst (λ (x : ℕ). (i : ℕ) → RECORD_WORDS ≤ i → i < FRAME_WORDS → (f (area_place (area_of x) 5 i)).durable ≡ 0) (sym version) rest;
+  accepted_put = put;
 }
 
 unformatted : (m : Machine) (w : World) (s : Shows m w) → IsFirst m w s.now_words s.saved_words → (word_at m.nvm 0).durable ≡ 0 → IsUnformatted (durable_words m.nvm) w
@@ -78,6 +89,7 @@ unformatted m w s at zero_word = record {
 
 standing : (m : Machine) (w : World) (s : Shows m w) → (word_at m.nvm 0).durable ≡ format_word → PartsAre (λ part. Clean) (word_at m.nvm) (area_place (area_of w.version)) s.saved_words → Stands (durable_words m.nvm) (accepted_count w) w.saved
 standing m w s formatted area = stands_of (word_at m.nvm) w.version s.saved_words (accepted_count w) w.saved formatted s.words.version_durable s.counted.version s.words.table area s.saved_is
+    (λ i low high. (s.words.record_rest (area_of w.version) i (area_below w.version) low high).1) (λ channel lt. prefix_length (w.released channel) (w.saved.out channel) (s.counted.released channel))
 
 at_stage : (m : Machine) (w : World) (s : Shows m w) (stage : Stage) → WordsShow stage (word_at m.nvm) w.version s.now_words s.saved_words → AtStage stage m w s.now_words s.saved_words
     → Stands (durable_words m.nvm) (accepted_count w) w.saved ⊎ IsUnformatted (durable_words m.nvm) w

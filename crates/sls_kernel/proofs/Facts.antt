@@ -8,12 +8,13 @@ use Rattle.pmem_model.specs.Memory.{Memory, word_at, count_up}
 use Rattle.pmem_model.specs.Events.{Kind, Cached, Clean, WordIs, WordCalm, WordFenced, settled, calm_word, fence_word}
 use Rattle.sls_kernel.specs.Plain.{State, World, commit, cut}
 use Rattle.sls_kernel.specs.Counts.{SameCounts}
-use Rattle.sls_kernel.specs.Areas.{PartsAre, IsOffArea, IsRecordOf}
+use Rattle.sls_kernel.specs.Areas.{PartsAre, IsOffArea, IsRecordOf, IsStored, StoresPart}
 use Rattle.sls_kernel.specs.Words.{record_word, running_place, area_place, area_of, part_words}
 use Rattle.sls_kernel.specs.Stages.{kind_after, checkpoint_next, format_next, save_kind}
 use Rattle.sls_kernel.specs.Shows.{Shows, WordsAre, WordsShow, AtStage, IsRunning, IsNext, AreState, IsCounted, HasCounts, IsFormatting, MayBeFormatted, IsPrefixOf, put_count}
 use Rattle.sls_kernel.specs.declared.thread.RunThread.{RunThread}
 use Rattle.sls_kernel.specs.declared.machine.Machine.{Machine}
+use Rattle.sls_kernel.specs.declared.record.TheConstants.{RECORD_WORDS}
 use Rattle.sls_kernel.specs.declared.stage.Stage.{Stage}
 use Rattle.sls_kernel.specs.declared.stage.Stage.TheVariants.{Format, Checkpoint}
 use Rattle.sls_kernel.specs.declared.stage.SaveStep.{SaveStep}
@@ -29,6 +30,16 @@ AllCalm f g = (i : ℕ) → WordCalm (f i) (g i)
 pub parts_calm : (kind : ℕ → Kind) (f g : ℕ → Word) (place words : ℕ → ℕ → ℕ) → ((part i : ℕ) → part < 6 → i < part_words part → WordCalm (f (place part i)) (g (place part i))) → PartsAre kind f place words → PartsAre kind g place words
 parts_calm kind f g place words calm known = λ part i p lt. calm_word 0 (kind part) (f (place part i)) (g (place part i)) (words part i) (calm part i p lt) (known part i p lt)
 
+-- the words behind the records
+abbrev pub RestCalm : (ℕ → Word) → (ℕ → Word) → Type 0
+RestCalm f g = (area i : ℕ) → area < 2 → RECORD_WORDS ≤ i → i < FRAME_WORDS → WordCalm (f (area_place area 5 i)) (g (area_place area 5 i))
+
+abbrev pub IsRestZero : (ℕ → Word) → Type 0
+IsRestZero f = (area i : ℕ) → area < 2 → RECORD_WORDS ≤ i → i < FRAME_WORDS → WordIs 0 Clean (f (area_place area 5 i)) 0
+
+pub rest_calm : (f g : ℕ → Word) → RestCalm f g → IsRestZero f → IsRestZero g
+rest_calm f g calm zero = λ area i a low high. calm_word 0 Clean (f (area_place area 5 i)) (g (area_place area 5 i)) 0 (calm area i a low high) (zero area i a low high)
+
 pub words_calm : (fk : Kind) (fv : ℕ) (vk : Kind) (vv : ℕ) (sk ok rk : ℕ → Kind) (f g : ℕ → Word) (v : ℕ) (now saved : ℕ → ℕ → ℕ) → AllCalm f g → (g 1).durable ≡ v → WordsAre fk fv vk vv sk ok rk f v now saved → WordsAre fk fv vk vv sk ok rk g v now saved
 words_calm fk fv vk vv sk ok rk f g v now saved calm durable known = record {
   format = calm_word 0 fk (f 0) (g 0) fv (calm 0) known.format;
@@ -38,6 +49,7 @@ words_calm fk fv vk vv sk ok rk f g v now saved calm durable known = record {
   saved_area = parts_calm sk f g (area_place (area_of v)) saved (λ part i p lt. calm (area_place (area_of v) part i)) known.saved_area;
   other_area = parts_calm ok f g (area_place (area_of (v + 1))) now (λ part i p lt. calm (area_place (area_of (v + 1)) part i)) known.other_area;
   running = λ page i p lt. calm_word 0 (rk page) (f (running_place page i)) (g (running_place page i)) (now page i) (calm (running_place page i)) (known.running page i p lt);
+  record_rest = rest_calm f g (λ area i a low high. calm (area_place area 5 i)) known.record_rest;
 }
 
 abbrev pub AllFenced : (ℕ → Word) → (ℕ → Word) → Type 0
@@ -56,6 +68,7 @@ words_fenced fk fv vk vv sk ok rk f g v now saved fenced durable known = record 
   saved_area = parts_fenced sk f g (area_place (area_of v)) saved fenced known.saved_area;
   other_area = parts_fenced ok f g (area_place (area_of (v + 1))) now fenced known.other_area;
   running = λ page i p lt. fence_word 0 (rk page) (f (running_place page i)) (g (running_place page i)) (now page i) (fenced (running_place page i)) (known.running page i p lt);
+  record_rest = rest_calm f g (λ area i a low high. (fenced (area_place area 5 i)).calm) known.record_rest;
 }
 
 -- the first two words may have become something else
@@ -70,6 +83,7 @@ words_above fk vk fk' vk' fv vv fv' vv' sk ok rk f g v now saved format version 
   saved_area = parts_calm sk f g (area_place (area_of v)) saved (λ part i p lt. calm (area_place (area_of v) part i) (omega arith)) known.saved_area;
   other_area = parts_calm ok f g (area_place (area_of (v + 1))) now (λ part i p lt. calm (area_place (area_of (v + 1)) part i) (omega arith)) known.other_area;
   running = λ page i p lt. calm_word 0 (rk page) (f (running_place page i)) (g (running_place page i)) (now page i) (calm (running_place page i) (omega arith)) (known.running page i p lt);
+  record_rest = rest_calm f g (λ area i a low high. calm (area_place area 5 i) (omega arith)) known.record_rest;
 }
 
 -- Places are apart.
@@ -86,13 +100,22 @@ off_area_running b page i p lt = inl (omega arith)
 pub off_area_table : (b i : ℕ) → i < TABLE_WORDS → IsOffArea b i
 off_area_table b i lt = inl (omega arith)
 
+-- what a save stores is not behind a record
+not_stored : (a b i : ℕ) (words : ℕ → ℕ → ℕ) (w u : Word) → a < 2 → b < 2 → RECORD_WORDS ≤ i → i < FRAME_WORDS → IsStored a words w u (area_place b 5 i) → ⊥
+not_stored a b i words w u low_a low_b low high stored = grind (arith, nat_tests, stored.is_part, stored.inside, stored.at)
+
+pub stores_calm : (area : ℕ) (words : ℕ → ℕ → ℕ) (f g : ℕ → Word) → area < 2 → ((i : ℕ) → StoresPart area words f g i) → RestCalm f g
+stores_calm area words f g low_area stores = λ b i low_b low high.
+    elim (stores (area_place b 5 i)) [ inl calm ↦ calm | inr stored ↦ absurd (not_stored area b i words _ _ low_area low_b low high stored) ]
+
 -- A checkpoint saves.
 
 pub checkpoint_saved : (o : Option SaveStep) (step : SaveStep) (f g : ℕ → Word) (v : ℕ) (now saved : ℕ → ℕ → ℕ)
     → ((i : ℕ) → IsOffArea (area_of (v + 1)) i → WordCalm (f i) (g i))
+    → RestCalm f g
     → PartsAre (kind_after o) g (area_place (area_of (v + 1))) now
     → WordsShow (Checkpoint (Save step)) f v now saved → WordsShow (checkpoint_next o) g v now saved
-checkpoint_saved None step f g v now saved calm written known =
+checkpoint_saved None step f g v now saved calm rest written known =
     let version = calm_word 0 Clean (f 1) (g 1) v (calm 1 (off_area_table (area_of (v + 1)) 1 (omega arith))) known.version in
     record {
       format = calm_word 0 Clean (f 0) (g 0) _ (calm 0 (off_area_table (area_of (v + 1)) 0 (omega arith))) known.format;
@@ -102,8 +125,9 @@ checkpoint_saved None step f g v now saved calm written known =
       saved_area = parts_calm (λ part. Clean) f g (area_place (area_of v)) saved (λ part i p lt. calm (area_place (area_of v) part i) (off_area (area_of v) (area_of (v + 1)) part i (areas_sum v) p lt)) known.saved_area;
       other_area = written;
       running = λ page i p lt. calm_word 0 Cached (f (running_place page i)) (g (running_place page i)) (now page i) (calm (running_place page i) (off_area_running (area_of (v + 1)) page i p lt)) (known.running page i p lt);
+      record_rest = rest_calm f g rest known.record_rest;
     }
-checkpoint_saved (Some next) step f g v now saved calm written known =
+checkpoint_saved (Some next) step f g v now saved calm rest written known =
     let version = calm_word 0 Clean (f 1) (g 1) v (calm 1 (off_area_table (area_of (v + 1)) 1 (omega arith))) known.version in
     record {
       format = calm_word 0 Clean (f 0) (g 0) _ (calm 0 (off_area_table (area_of (v + 1)) 0 (omega arith))) known.format;
@@ -113,6 +137,7 @@ checkpoint_saved (Some next) step f g v now saved calm written known =
       saved_area = parts_calm (λ part. Clean) f g (area_place (area_of v)) saved (λ part i p lt. calm (area_place (area_of v) part i) (off_area (area_of v) (area_of (v + 1)) part i (areas_sum v) p lt)) known.saved_area;
       other_area = written;
       running = λ page i p lt. calm_word 0 Cached (f (running_place page i)) (g (running_place page i)) (now page i) (calm (running_place page i) (off_area_running (area_of (v + 1)) page i p lt)) (known.running page i p lt);
+      record_rest = rest_calm f g rest known.record_rest;
     }
 
 -- Tests and lists.
@@ -138,9 +163,10 @@ nothing_saved f place words = λ part i p lt. let none : nat_lt part 0 ≡ false
 -- the same for formatting
 pub format_saved : (o : Option SaveStep) (step : SaveStep) (f g : ℕ → Word) (now saved : ℕ → ℕ → ℕ)
     → ((i : ℕ) → IsOffArea 0 i → WordCalm (f i) (g i))
+    → RestCalm f g
     → PartsAre (kind_after o) g (area_place 0) saved
     → WordsShow (Format (FormatSave step)) f 0 now saved → WordsShow (format_next o) g 0 now saved
-format_saved None step f g now saved calm written known =
+format_saved None step f g now saved calm rest written known =
     let version = calm_word 0 Clean (f 1) (g 1) 0 (calm 1 (off_area_table 0 1 (omega arith))) known.version in
     record {
       format = calm_word 0 Clean (f 0) (g 0) _ (calm 0 (off_area_table 0 0 (omega arith))) known.format;
@@ -150,8 +176,9 @@ format_saved None step f g now saved calm written known =
       saved_area = written;
       other_area = λ part i p lt. tt;
       running = λ page i p lt. calm_word 0 Cached (f (running_place page i)) (g (running_place page i)) (now page i) (calm (running_place page i) (off_area_running 0 page i p lt)) (known.running page i p lt);
+      record_rest = rest_calm f g rest known.record_rest;
     }
-format_saved (Some next) step f g now saved calm written known =
+format_saved (Some next) step f g now saved calm rest written known =
     let version = calm_word 0 Clean (f 1) (g 1) 0 (calm 1 (off_area_table 0 1 (omega arith))) known.version in
     record {
       format = calm_word 0 Clean (f 0) (g 0) _ (calm 0 (off_area_table 0 0 (omega arith))) known.format;
@@ -161,6 +188,7 @@ format_saved (Some next) step f g now saved calm written known =
       saved_area = written;
       other_area = λ part i p lt. tt;
       running = λ page i p lt. calm_word 0 Cached (f (running_place page i)) (g (running_place page i)) (now page i) (calm (running_place page i) (off_area_running 0 page i p lt)) (known.running page i p lt);
+      record_rest = rest_calm f g rest known.record_rest;
     }
 
 -- what the stage says, at the stage that it is

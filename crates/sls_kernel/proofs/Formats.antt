@@ -19,7 +19,7 @@ use Rattle.sls_kernel.specs.declared.stage.SaveStep.TheVariants.{Copy}
 use Rattle.sls_kernel.specs.declared.stage.Stage.{Stage}
 use Rattle.sls_kernel.specs.declared.stage.Stage.TheVariants.{Format}
 use Rattle.sls_kernel.specs.declared.stage.FormatStep.TheVariants.{Fill, Save}
-use Rattle.sls_kernel.proofs.Facts.{shows_on, formatting_on, nothing_saved}
+use Rattle.sls_kernel.proofs.Facts.{shows_on, formatting_on, nothing_saved, rest_calm}
 use Rattle.sls_kernel.proofs.WriteBacks.{running_on}
 
 -- the first world is at version 0
@@ -119,6 +119,7 @@ filled program f g v now saved is event known =
           subst (λ (k : ℕ). (g (running_place k i)).cached ≡ now k i) (sym at)
           (subst (λ (k : ℕ). (g k).cached ≡ slice_index program i) (own_place i) (burst_cached f g (frame_place 8 + 0) 512 i (slice_index program) event lt) ∙ sym (ap (λ (ws : ℕ → ℕ → ℕ). ws 4 i) is)))
           (cases_lt page 4);
+      record_rest = rest_calm f g (λ area i a low high. calm (area_place area 5 i) (inr (omega arith))) known.record_rest;
     }
 
 format_on : (n : Machine) (w : World) (now saved : ℕ → ℕ → ℕ) (o : Option SaveStep) → IsFirst n w now saved → AtStage (format_next o) n w now saved

@@ -13,7 +13,7 @@ use Rattle.sls_kernel.specs.Stages.{format_word, is_stage}
 use Rattle.sls_kernel.specs.declared.stage.Stage.{Stage}
 use Rattle.sls_kernel.specs.declared.stage.Stage.TheVariants.{Recover, Up}
 use Rattle.sls_kernel.specs.declared.thread.RunThread.{RunThread}
-use Rattle.sls_kernel.proofs.Facts.{parts_calm}
+use Rattle.sls_kernel.proofs.Facts.{parts_calm, rest_calm}
 
 -- a copy of a page back from the area of v
 abbrev pub CopiesBack : ℕ → ℕ → (ℕ → Word) → (ℕ → Word) → Type 0
@@ -66,6 +66,7 @@ recovered_words copied page v f g now saved rk event p known running =
       saved_area = parts_calm (λ part. Clean) f g (area_place (area_of v)) saved (λ part i q lt. off_copy v page f g event (area_place (area_of v) part i) (inr (omega arith))) known.saved_area;
       other_area = λ part i q lt. tt;
       running = running;
+      record_rest = rest_calm f g (λ area i a low high. off_copy v page f g event (area_place area 5 i) (inr (omega arith))) known.record_rest;
     }
 
 pub some_recovered : (page v : ℕ) (f g : ℕ → Word) (now saved : ℕ → ℕ → ℕ) → now ≡ saved → CopiesBack v page f g → page < 5 → WordsShow (Recover page) f v now saved → WordsShow (Recover (page + 1)) g v now saved

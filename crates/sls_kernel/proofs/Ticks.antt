@@ -21,7 +21,7 @@ use Rattle.sls_kernel.specs.declared.thread.Status.TheVariants.{Ready, Running, 
 use Rattle.sls_kernel.specs.declared.stage.Stage.{Stage}
 use Rattle.sls_kernel.specs.declared.machine.Machine.{Machine}
 use Rattle.sls_kernel.specs.declared.stage.Stage.TheVariants.{Up}
-use Rattle.sls_kernel.proofs.Facts.{words_at, stage_at, parts_calm, prefix_all, prefix_of_prefix}
+use Rattle.sls_kernel.proofs.Facts.{words_at, stage_at, parts_calm, rest_calm, prefix_all, prefix_of_prefix}
 use Rattle.sls_kernel.proofs.Durable.{holds_along}
 
 -- the words of the state that runs: its pages, and the record that its thread would have
@@ -63,6 +63,7 @@ ticked_words f g v now saved s rest known =
       saved_area = parts_calm (λ part. Clean) f g (area_place (area_of v)) saved (λ part i p lt. calm (area_place (area_of v) part i) (inr (omega arith))) known.saved_area;
       other_area = λ part i p lt. tt;
       running = λ page i p lt. sym (page_word g s page i p);
+      record_rest = rest_calm f g (λ area i a low high. calm (area_place area 5 i) (inr (omega arith))) known.record_rest;
     }
 
 -- What was put stays put.

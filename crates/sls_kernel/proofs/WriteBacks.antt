@@ -14,7 +14,7 @@ use Rattle.sls_kernel.specs.declared.machine.Machine.{Machine}
 use Rattle.sls_kernel.specs.declared.stage.Stage.{Stage}
 use Rattle.sls_kernel.specs.declared.stage.Stage.TheVariants.{Format, Recover, Up, Checkpoint}
 use Rattle.sls_kernel.specs.declared.stage.CheckpointStep.TheVariants.{Save, StoreVersion, FlushVersion, FenceVersion, FlushAgain, FenceAgain}
-use Rattle.sls_kernel.proofs.Facts.{AllCalm, words_at, stage_at, shows_on, words_calm, parts_calm, formatting_on, counted_commit, fence_same, fence_more}
+use Rattle.sls_kernel.proofs.Facts.{AllCalm, words_at, stage_at, shows_on, words_calm, parts_calm, rest_calm, formatting_on, counted_commit, fence_same, fence_more}
 
 -- where no version waits, the version word is clean
 quiet : (stage : Stage) (u : Word) (v : ℕ) → resumed_of stage ≡ None → WordIs 0 (version_kind stage) u (version_value stage v) → u.durable ≡ v
@@ -96,6 +96,7 @@ commit_words vk f g v now saved calm version known = record {
   saved_area = parts_calm (λ part. Clean) f g (area_place (area_of (v + 1))) now (λ part i p lt. calm (area_place (area_of (v + 1)) part i)) known.other_area;
   other_area = λ part i p lt. tt;
   running = λ page i p lt. calm_word 0 Cached (f (running_place page i)) (g (running_place page i)) (now page i) (calm (running_place page i)) (known.running page i p lt);
+  record_rest = rest_calm f g (λ area i a low high. calm (area_place area 5 i)) known.record_rest;
 }
 
 commits_waiting : (m n : Machine) (w : World) (s : Shows m w) {old new : Stage} → Waits old new → m.stage ≡ old → AllCalm (word_at m.nvm) (word_at n.nvm) → (word_at n.nvm 1).durable ≡ (word_at m.nvm 1).cached

@@ -9,6 +9,7 @@ use Rattle.sls_kernel.specs.Words.{Holds, Tells, record_word, running_place, are
 use Rattle.sls_kernel.specs.Areas.{PartsAre}
 use Rattle.sls_kernel.specs.Program.{page_bytes}
 use Rattle.sls_kernel.specs.Stages.{saved_kind, other_kind, running_kind, format_kind, format_value, version_kind, version_value, format_word}
+use Rattle.sls_kernel.specs.declared.record.TheConstants.{RECORD_WORDS}
 use Rattle.sls_kernel.specs.declared.stage.Stage.{Stage}
 use Rattle.sls_kernel.specs.declared.stage.Stage.TheVariants.{Format, Recover, Up, Checkpoint}
 use Rattle.sls_kernel.specs.declared.stage.CheckpointStep.{CheckpointStep}
@@ -32,12 +33,15 @@ pub record AreState (words : ℕ → ℕ → ℕ) (accepted : ℕ → ℕ) (s : 
 abbrev pub area_words : (ℕ → ℕ) → ℕ → ℕ → ℕ → ℕ
 area_words durable area part i = durable (area_place area part i)
 
--- durable words stand for a state: they are formatted, and the area of the version in word 1 is the state
+-- Durable words stand for a state: they are formatted, and the area of the version in word 1 is the state, with zeros
+-- behind the record in its frame. The device accepted no more entries than were put.
 pub record Stands (durable : ℕ → ℕ) (accepted : ℕ → ℕ) (s : State) : Type 0 where
   pub formatted : durable 0 ≡ format_word
   pub in_range : durable 1 ≤ LAST_VERSION
   pub table : (i : ℕ) → 2 ≤ i → i < TABLE_WORDS → durable i ≡ 0
   pub area : AreState (area_words durable (area_of (durable 1))) accepted s
+  pub record_rest : (i : ℕ) → RECORD_WORDS ≤ i → i < FRAME_WORDS → durable (area_place (area_of (durable 1)) 5 i) ≡ 0
+  pub accepted_put : (channel : ℕ) → channel < 4 → accepted channel ≤ put_count s channel
 
 -- the durable words of a memory
 abbrev pub durable_words : Memory → ℕ → ℕ
@@ -87,7 +91,8 @@ pub record HasCounts (m : Memory) (w : World) : Type 0 where
 -- The machine.
 
 -- What is known of the words of a memory, whatever is written back: of the format word, of the version word, of the area
--- of the version, of the other area, and of the running pages. The other words of the table are zero.
+-- of the version, of the other area, and of the running pages. The other words of the table are zero, and so are those
+-- behind the records of both areas in their frames.
 pub record WordsAre (format_is : Kind) (format_reads : ℕ) (version_is : Kind) (version_reads : ℕ) (saved_are other_are running_are : ℕ → Kind) (f : ℕ → Word) (v : ℕ) (now saved : ℕ → ℕ → ℕ) : Type 0 where
   pub format : WordIs 0 format_is (f 0) format_reads
   pub version : WordIs 0 version_is (f 1) version_reads
@@ -96,6 +101,7 @@ pub record WordsAre (format_is : Kind) (format_reads : ℕ) (version_is : Kind) 
   pub saved_area : PartsAre saved_are f (area_place (area_of v)) saved
   pub other_area : PartsAre other_are f (area_place (area_of (v + 1))) now
   pub running : (page i : ℕ) → page < 5 → i < FRAME_WORDS → WordIs 0 (running_are page) (f (running_place page i)) (now page i)
+  pub record_rest : (area i : ℕ) → area < 2 → RECORD_WORDS ≤ i → i < FRAME_WORDS → WordIs 0 Clean (f (area_place area 5 i)) 0
 
 -- what is known of them in a stage
 abbrev pub WordsShow : Stage → (ℕ → Word) → ℕ → (ℕ → ℕ → ℕ) → (ℕ → ℕ → ℕ) → Type 0
@@ -176,7 +182,7 @@ pub record IsUnformatted (durable : ℕ → ℕ) (w : World) : Type 0 where
   pub world : w ≡ first (page_bytes program) w.commits w.cuts
 
 -- The memory shows the world: each word is durable, and stands for the saved state, or for the first one where it was
--- cut within formatting; and the running state is the saved one.
+-- cut within formatting; and the running state is the saved one. In both areas zeros stand behind the record.
 pub record ShowsOff (off : Off) (w : World) : Type 0 where
   pub clean : (i : ℕ) → (word_at off.nvm i).cached ≡ (word_at off.nvm i).durable
   pub version : durable_words off.nvm 1 ≡ w.version
@@ -184,3 +190,4 @@ pub record ShowsOff (off : Off) (w : World) : Type 0 where
   pub counted : IsCounted off.accepted w
   pub counts : HasCounts off.nvm w
   pub now : w.now ≡ w.saved
+  pub record_rest : (area i : ℕ) → area < 2 → RECORD_WORDS ≤ i → i < FRAME_WORDS → durable_words off.nvm (area_place area 5 i) ≡ 0

@@ -26,6 +26,7 @@ returns-else-version-ge-LAST_VERSION-clause-world c = λ w s.
             saved_area = known.saved_area;
             other_area = nothing_saved (word_at m.nvm) (area_place (area_of (w.version + 1))) s.now_words;
             running = known.running;
+            record_rest = known.record_rest;
           })
           (stage_at m w s Up c.in-Up.is, record { next_is = ap (λ (v : ℕ). v + 1) is; in_range = omega arith }),
     )

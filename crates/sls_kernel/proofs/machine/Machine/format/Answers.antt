@@ -8,7 +8,7 @@ use Rattle.sls_kernel.specs.Areas.{PartsAre}
 use Rattle.sls_kernel.specs.Shows.{WordsShow}
 use Rattle.sls_kernel.specs.declared.stage.Stage.TheVariants.{Format}
 use Rattle.sls_kernel.specs.declared.stage.FormatStep.TheVariants.{Fill, Save, StoreWord, FlushWord, FenceWord}
-use Rattle.sls_kernel.proofs.Facts.{words_at, stage_at, shows_on, words_above, words_fenced, fence_same, format_saved, record_is, off_area_table}
+use Rattle.sls_kernel.proofs.Facts.{words_at, stage_at, shows_on, words_above, words_fenced, fence_same, format_saved, record_is, stores_calm, off_area_table}
 use Rattle.sls_kernel.proofs.Formats.{first_version, still_first, part_formats, word_formats, page_formats, page_burst, filled, shows_formatting}
 use Rattle.sls_kernel.proofs.WriteBacks.{formatting_calm}
 use Rattle.sls_kernel.proofs.machine.Machine.format.Goals as goal
@@ -47,12 +47,14 @@ returns-in-Save-clause-world c = λ w s.
     let at_zero = subst (λ (v : ℕ). WordsShow (Format (Save step)) f v s.now_words s.saved_words) zero known in
     let written = subst (λ (ws : ℕ → ℕ → ℕ). PartsAre (save_kind step) f (area_place 0) ws → PartsAre (kind_after (step_after step)) g (area_place 0) ws) (sym both)
     (c.save.ensures.saved s.now_words known.running record_of) in
-    let words = format_saved (step_after step) step f g s.now_words s.saved_words c.save.ensures.rest (written at_zero.saved_area) at_zero in
+    let stores = c.save.ensures.stores s.now_words known.running record_of in
+    let rest = stores_calm 0 s.now_words f g (omega arith) stores in
+    let words = format_saved (step_after step) step f g s.now_words s.saved_words c.save.ensures.rest rest (written at_zero.saved_area) at_zero in
     let same = calm_word 0 Clean (f 1) (g 1) w.version (c.save.ensures.rest 1 (off_area_table 0 1 (omega arith))) known.version in (
       tt,
       shows_formatting m _ w s (step_after step) next refl refl refl refl (c.save.ensures.counts (same.1 ∙ sym known.version_durable))
           (subst (λ (v : ℕ). WordsShow (format_next (step_after step)) g v s.now_words s.saved_words) (sym zero) words)
-          (part_formats m.program.items s.now_words f g at.now_is (c.save.ensures.stores s.now_words known.running record_of) at.formatting) at,
+          (part_formats m.program.items s.now_words f g at.now_is stores at.formatting) at,
     )
 
 pub returns-in-StoreWord-clause-world : goal.returns-in-StoreWord-clause-world

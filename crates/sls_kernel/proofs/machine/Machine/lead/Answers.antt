@@ -8,7 +8,7 @@ use Rattle.sls_kernel.specs.Stages.{checkpoint_next, step_after, kind_after, sav
 use Rattle.sls_kernel.specs.Areas.{PartsAre, IsOffArea}
 use Rattle.sls_kernel.specs.declared.stage.Stage.TheVariants.{Checkpoint}
 use Rattle.sls_kernel.specs.declared.stage.CheckpointStep.TheVariants.{Save, StoreVersion, FlushVersion, FenceVersion, FenceAgain}
-use Rattle.sls_kernel.proofs.Facts.{words_at, stage_at, shows_on, words_above, words_fenced, parts_fenced, fence_same, fence_more, counted_commit, checkpoint_saved, record_is, shows_saving, off_area_table}
+use Rattle.sls_kernel.proofs.Facts.{words_at, stage_at, shows_on, words_above, words_fenced, parts_fenced, fence_same, fence_more, counted_commit, checkpoint_saved, record_is, rest_calm, shows_saving, stores_calm, off_area_table}
 use Rattle.sls_kernel.proofs.machine.Machine.lead.Goals as goal
 
 pub returns-in-Save-clause-world : goal.returns-in-Save-clause-world
@@ -23,9 +23,11 @@ returns-in-Save-clause-world c = λ w s.
     let area : c.area_of_version-area.result ≡ area_of (w.version + 1) = c.area_of_version-area.ensures.area ∙ ap area_of at.1.next_is in
     let calm = subst (λ (a : ℕ). (i : ℕ) → IsOffArea a i → WordCalm (f i) (g i)) area c.save.ensures.rest in
     let next : c.checkpoint_after-self.result ≡ checkpoint_next (step_after step) = c.checkpoint_after-self.ensures ∙ ap checkpoint_next c.after.ensures in
+    let record_of = record_is s.now_words m.thread m.put w.now _ at.0 s.now_is in
     let saved = subst (λ (a : ℕ). PartsAre (save_kind step) f (area_place a) s.now_words → PartsAre (kind_after (step_after step)) g (area_place a) s.now_words) area
-    (c.save.ensures.saved s.now_words known.running (record_is s.now_words m.thread m.put w.now _ at.0 s.now_is)) in
-    let words = checkpoint_saved (step_after step) step f g w.version s.now_words s.saved_words calm (saved known.other_area) known in
+    (c.save.ensures.saved s.now_words known.running record_of) in
+    let rest = stores_calm c.area_of_version-area.result s.now_words f g c.area_of_version-area.ensures.range (c.save.ensures.stores s.now_words known.running record_of) in
+    let words = checkpoint_saved (step_after step) step f g w.version s.now_words s.saved_words calm rest (saved known.other_area) known in
     let same = calm_word 0 Clean (f 1) (g 1) w.version (calm 1 (off_area_table _ 1 (omega arith))) known.version in
     (tt, shows_saving m _ w s (step_after step) next refl (c.save.ensures.counts (same.1 ∙ sym known.version_durable)) words at.0 at.1)
 
@@ -96,6 +98,7 @@ returns-in-FenceVersion-clause-world c = λ w s.
           saved_area = parts_fenced (λ part. Clean) f g (area_place (area_of (w.version + 1))) s.now_words fenced known.other_area;
           other_area = λ part i p lt. tt;
           running = λ page i p lt. fence_word 0 Cached (f _) (g _) (s.now_words page i) (fenced _) (known.running page i p lt);
+          record_rest = rest_calm f g (λ area i a low high. (fenced (area_place area 5 i)).calm) known.record_rest;
         };
         counted = counted_commit m.accepted w s.counted fits;
         counts = record {
