@@ -36,12 +36,17 @@ const FIRST_AREA: usize = 16;
 /// The frames of an area.
 const PARTS: usize = 6;
 
-/// The image of the program.
-fn counting(rt: &impl Abort, alloc: Global) -> Result<Image, Fail>
+/// Two words that halt: addi x17, x0, 1 and ecall.
+const HALTS: [u32; 2] = [0x0010_0893, 0x0000_0073];
+/// More turns than a program that stops takes.
+const LIMIT: u32 = 100;
+
+/// The image of a program.
+fn image_of(rt: &impl Abort, alloc: Global, code: &[u32]) -> Result<Image, Fail>
     ensures { IfOk result IsOfCode }
 {
     let mut content = Vec::new(alloc);
-    for word in CODE {
+    for word in code {
         content.extend_from_slice(&word.to_le_bytes())?;
     }
     assert!(rt; content.len() <= PAGE_BYTES);
@@ -60,6 +65,13 @@ fn counting(rt: &impl Abort, alloc: Global) -> Result<Image, Fail>
         regions,
     })?;
     Ok(Image { programs })
+}
+
+/// The image of the program that counts.
+fn counting(rt: &impl Abort, alloc: Global) -> Result<Image, Fail>
+    ensures { IfOk result IsOfCode }
+{
+    image_of(rt, alloc, &CODE)
 }
 
 /// A machine that begins to format an empty memory.
@@ -86,6 +98,39 @@ fn turns(machine: &mut Machine, count: u32) -> Did {
         did = machine.turn(0);
     }
     did
+}
+
+/// After how many turns a machine that is up has nothing to run, if that is below the limit.
+fn turns_until_idle(machine: &mut Machine) -> u32 {
+    for count in 0..LIMIT {
+        if machine.turn(0) == Did::Idle {
+            return count;
+        }
+    }
+    LIMIT
+}
+
+/// addi xTO, x0, IMMEDIATE, where an immediate from 2,048 on is the negative number 4,096 below.
+fn addi(to: u32, immediate: u32) -> u32 {
+    immediate << 20 | to << 7 | 0x13
+}
+
+/// A program that puts by these arguments, puts the answer, of four bytes, as the next entry of channel 0, and halts.
+fn putting(slot: u32, address: u32, length: u32) -> [u32; 12] {
+    [
+        addi(17, 2),
+        addi(10, slot),
+        addi(11, address),
+        addi(12, length),
+        0x0000_0073, // ecall
+        0x04A0_2023, // sw x10, 64(x0)
+        addi(10, 2),
+        addi(11, 64),
+        addi(12, 4),
+        0x0000_0073, // ecall
+        HALTS[0],
+        HALTS[1],
+    ]
 }
 
 /// What asking for a checkpoint gives.
@@ -211,5 +256,49 @@ fn a_write_back_of_the_version_word_commits(rt: HostRuntime) -> Result<(), Fail>
     assert!(rt; accepts(&rt, &mut machine, 0, &[1, 0, 0, 0]));
     let mut machine = cut_and_light(rt.alloc(), machine, &image)?;
     assert_eq!(rt; turns(&mut machine, RECOVERY), Did::Up(1));
+    Ok(())
+}
+
+#[test]
+fn a_program_stops_at_a_word_that_is_none_and_past_its_page(rt: HostRuntime) -> Result<(), Fail> {
+    for (first, second, third, stopped_after) in [
+        (0x0000_0000, 0, 0, 1),
+        (0x7FF0_0313, 0x7FD3_0313, 0x0003_2283, 5), // addi x6, x0, 2047; addi x6, x6, 2045; lw x5, 0(x6)
+        (0x7FF0_0313, 0x7FD3_0313, 0x0043_2283, 3), // and with lw x5, 4(x6), which is past the page
+        (0x0000_106F, 0, 0, 2), // jal x0, 4096
+    ] {
+        let image = image_of(&rt, rt.alloc(), &[first, second, third, HALTS[0], HALTS[1]])?;
+        let mut machine = boot(rt.alloc(), &image)?;
+        turns(&mut machine, FORMATTING);
+        assert_eq!(rt;
+            turns_until_idle(&mut machine),
+            stopped_after,
+            "{first:08x} {third:08x}"
+        );
+    }
+    Ok(())
+}
+
+#[test]
+fn put_answers_by_the_slot_the_address_and_the_length(rt: HostRuntime) -> Result<(), Fail> {
+    // The low bytes of -2, -3, -5 and -6; the others are all ones.
+    for (slot, address, length, answer) in [
+        (10, 64, 4, 0xFE), // an empty slot
+        (8, 64, 4, 0xFD), // the memory
+        (2, 4_095, 4, 0xFB), // from the last address on
+        (2, 64, 0, 0xFA),
+        (2, 64, 57, 0xFA),
+    ] {
+        let image = image_of(&rt, rt.alloc(), &putting(slot, address, length))?;
+        let mut machine = boot(rt.alloc(), &image)?;
+        turns(&mut machine, FORMATTING);
+        assert_eq!(rt; turns_until_idle(&mut machine), 12);
+        assert_eq!(rt; ask(&rt, rt.alloc(), &mut machine), Asked::Started);
+        assert_eq!(rt; turns(&mut machine, CHECKPOINT), Did::Committed(1));
+        assert!(rt;
+            accepts(&rt, &mut machine, 0, &[answer, 0xFF, 0xFF, 0xFF]),
+            "slot {slot}, {length} bytes"
+        );
+    }
     Ok(())
 }
