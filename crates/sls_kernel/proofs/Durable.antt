@@ -1,5 +1,5 @@
 -- What is durable at every moment: the saved state, or the words of a memory that isn't formatted yet.
-use Rattle.std.proofs.Common.{◌≡◌, ◌⊎◌, inl, inr, ℕ, ◌+◌, ◌*◌, ◌/◌, ◌%◌, ◌<◌, ◌≤◌, ◌∙◌, ◌++◌, ap, sym, subst, arith, List, [], length, length-append, slice_index_or}
+use Rattle.std.proofs.Common.{◌≡◌, ◌⊎◌, inl, inr, ℕ, ◌+◌, ◌*◌, ◌/◌, ◌%◌, ◌<◌, ◌≤◌, ◌∙◌, ap, sym, subst, arith, List, [], length, length-append, slice_index_or}
 use Rattle.sls_base.specs.declared.limits.TheConstants.{TABLE_WORDS, FRAME_WORDS, LAST_VERSION, RING_ENTRIES}
 use Rattle.pmem_model.specs.Words.{Word}
 use Rattle.pmem_model.specs.Memory.{word_at}

@@ -9,7 +9,10 @@ use Rattle.sls_kernel.specs.Words.{Holds, Tells, record_word, running_place, are
 use Rattle.sls_kernel.specs.Areas.{PartsAre}
 use Rattle.sls_kernel.specs.Program.{page_bytes}
 use Rattle.sls_kernel.specs.Stages.{saved_kind, other_kind, running_kind, format_kind, format_value, version_kind, version_value, format_word}
+use Rattle.sls_kernel.specs.declared.area.TheConstants.{RECORD_PART}
+use Rattle.sls_kernel.specs.declared.machine.TheConstants.{PROGRAM_PAGE}
 use Rattle.sls_kernel.specs.declared.record.TheConstants.{RECORD_WORDS}
+use Rattle.sls_kernel.specs.declared.stage.TheConstants.{PAGES, PARTS}
 use Rattle.sls_kernel.specs.declared.stage.Stage.{Stage}
 use Rattle.sls_kernel.specs.declared.stage.Stage.TheVariants.{Format, Recover, Up, Checkpoint}
 use Rattle.sls_kernel.specs.declared.stage.CheckpointStep.{CheckpointStep}
@@ -27,7 +30,7 @@ put_count s channel = length (s.out channel)
 -- six parts of words are a state, to a device that accepted so many entries
 pub record AreState (words : ℕ → ℕ → ℕ) (accepted : ℕ → ℕ) (s : State) : Type 0 where
   pub holds : Holds words accepted s
-  pub thread_record : (i : ℕ) → i < 21 → words 5 i ≡ record_word s.thread (put_count s) i
+  pub thread_record : (i : ℕ) → i < RECORD_WORDS → words RECORD_PART i ≡ record_word s.thread (put_count s) i
 
 -- the words of an area
 abbrev pub area_words : (ℕ → ℕ) → ℕ → ℕ → ℕ → ℕ
@@ -40,7 +43,7 @@ pub record Stands (durable : ℕ → ℕ) (accepted : ℕ → ℕ) (s : State) :
   pub in_range : durable 1 ≤ LAST_VERSION
   pub table : (i : ℕ) → 2 ≤ i → i < TABLE_WORDS → durable i ≡ 0
   pub area : AreState (area_words durable (area_of (durable 1))) accepted s
-  pub record_rest : (i : ℕ) → RECORD_WORDS ≤ i → i < FRAME_WORDS → durable (area_place (area_of (durable 1)) 5 i) ≡ 0
+  pub record_rest : (i : ℕ) → RECORD_WORDS ≤ i → i < FRAME_WORDS → durable (area_place (area_of (durable 1)) RECORD_PART i) ≡ 0
   pub accepted_put : (channel : ℕ) → channel < 4 → accepted channel ≤ put_count s channel
 
 -- the durable words of a memory
@@ -56,16 +59,16 @@ IsZero w = (w.cached ≡ 0) × (w.durable ≡ 0)
 -- the words that a program begins with: its page, the record of its thread, and empty rings
 abbrev pub first_words : List ℕ → ℕ → ℕ → ℕ
 first_words program part i =
-    if part == 4 then slice_index program i
-    else (if part == 5 then record_word (initial (λ a. 0)).thread (λ channel. 0) i else 0)
+    if part == PROGRAM_PAGE then slice_index program i
+    else (if part == RECORD_PART then record_word (initial (λ a. 0)).thread (λ channel. 0) i else 0)
 
 -- a word may be x within formatting: it is zero, or what formatting stores there
 abbrev pub MayBeFormatted : List ℕ → ℕ → ℕ → Type 0
 MayBeFormatted program i x =
     (x ≡ 0)
     ⊎ (((i ≡ 0) × (x ≡ format_word))
-    ⊎ (((o : ℕ) × (o < FRAME_WORDS) × (i ≡ running_place 4 o) × (x ≡ first_words program 4 o))
-    ⊎ ((part : ℕ) × (o : ℕ) × (part < 6) × (o < part_words part) × (i ≡ area_place 0 part o) × (x ≡ first_words program part o))))
+    ⊎ (((o : ℕ) × (o < FRAME_WORDS) × (i ≡ running_place PROGRAM_PAGE o) × (x ≡ first_words program PROGRAM_PAGE o))
+    ⊎ ((part : ℕ) × (o : ℕ) × (part < PARTS) × (o < part_words part) × (i ≡ area_place 0 part o) × (x ≡ first_words program part o))))
 
 pub record IsFormatting (program : List ℕ) (f : ℕ → Word) : Type 0 where
   pub cached : (i : ℕ) → MayBeFormatted program i (f i).cached
@@ -100,8 +103,8 @@ pub record WordsAre (format_is : Kind) (format_reads : ℕ) (version_is : Kind) 
   pub table : (i : ℕ) → 2 ≤ i → i < TABLE_WORDS → WordIs 0 Clean (f i) 0
   pub saved_area : PartsAre saved_are f (area_place (area_of v)) saved
   pub other_area : PartsAre other_are f (area_place (area_of (v + 1))) now
-  pub running : (page i : ℕ) → page < 5 → i < FRAME_WORDS → WordIs 0 (running_are page) (f (running_place page i)) (now page i)
-  pub record_rest : (area i : ℕ) → area < 2 → RECORD_WORDS ≤ i → i < FRAME_WORDS → WordIs 0 Clean (f (area_place area 5 i)) 0
+  pub running : (page i : ℕ) → page < PAGES → i < FRAME_WORDS → WordIs 0 (running_are page) (f (running_place page i)) (now page i)
+  pub record_rest : (area i : ℕ) → area < 2 → RECORD_WORDS ≤ i → i < FRAME_WORDS → WordIs 0 Clean (f (area_place area RECORD_PART i)) 0
 
 -- what is known of them in a stage
 abbrev pub WordsShow : Stage → (ℕ → Word) → ℕ → (ℕ → ℕ → ℕ) → (ℕ → ℕ → ℕ) → Type 0
@@ -190,4 +193,4 @@ pub record ShowsOff (off : Off) (w : World) : Type 0 where
   pub counted : IsCounted off.accepted w
   pub counts : HasCounts off.nvm w
   pub now : w.now ≡ w.saved
-  pub record_rest : (area i : ℕ) → area < 2 → RECORD_WORDS ≤ i → i < FRAME_WORDS → durable_words off.nvm (area_place area 5 i) ≡ 0
+  pub record_rest : (area i : ℕ) → area < 2 → RECORD_WORDS ≤ i → i < FRAME_WORDS → durable_words off.nvm (area_place area RECORD_PART i) ≡ 0

@@ -1,6 +1,9 @@
 -- The steps of a machine: which comes next, how many are left, and what is known of the words before each.
 use Rattle.std.specs.Prelude.{ℕ, ◌+◌, ◌-◌, nat_lt, Bool, true, if◌then◌else◌, Option, Some, None}
 use Rattle.pmem_model.specs.Events.{Kind, Any, Cached, Ready, Clean, Over, ReadyOver}
+use Rattle.sls_kernel.specs.declared.area.TheConstants.{RECORD_PART}
+use Rattle.sls_kernel.specs.declared.machine.TheConstants.{PROGRAM_PAGE}
+use Rattle.sls_kernel.specs.declared.stage.TheConstants.{PAGES, PARTS}
 use Rattle.sls_kernel.specs.declared.stage.SaveStep.{SaveStep}
 use Rattle.sls_kernel.specs.declared.stage.SaveStep.TheVariants.{Copy, Record, Flush, Fence}
 use Rattle.sls_kernel.specs.declared.stage.FormatStep.{FormatStep}
@@ -12,9 +15,9 @@ use Rattle.sls_kernel.specs.declared.stage.Stage.TheVariants.{Format, Recover, U
 
 -- The numbers in steps are in range.
 abbrev pub is_save_step : SaveStep → Bool
-is_save_step (Copy page) = nat_lt page 5
+is_save_step (Copy page) = nat_lt page PAGES
 is_save_step Record = true
-is_save_step (Flush part) = nat_lt part 6
+is_save_step (Flush part) = nat_lt part PARTS
 is_save_step Fence = true
 
 abbrev pub is_format_step : FormatStep → Bool
@@ -34,15 +37,15 @@ is_checkpoint_step FenceAgain = true
 
 abbrev pub is_stage : Stage → Bool
 is_stage (Format step) = is_format_step step
-is_stage (Recover page) = nat_lt page 5
+is_stage (Recover page) = nat_lt page PAGES
 is_stage Up = true
 is_stage (Checkpoint step) = is_checkpoint_step step
 
 -- What comes next.
 abbrev pub step_after : SaveStep → Option SaveStep
-step_after (Copy page) = (if nat_lt (page + 1) 5 then Some (Copy (page + 1)) else Some Record)
+step_after (Copy page) = (if nat_lt (page + 1) PAGES then Some (Copy (page + 1)) else Some Record)
 step_after Record = Some (Flush 0)
-step_after (Flush part) = (if nat_lt (part + 1) 6 then Some (Flush (part + 1)) else Some Fence)
+step_after (Flush part) = (if nat_lt (part + 1) PARTS then Some (Flush (part + 1)) else Some Fence)
 step_after Fence = None
 
 -- where a checkpoint goes on once its version word is durable before the leader's fence
@@ -91,7 +94,7 @@ left_of (Checkpoint FenceAgain) = 1
 -- What is known of the words of an area that is being written, part by part.
 abbrev pub save_kind : SaveStep → ℕ → Kind
 save_kind (Copy page) part = (if nat_lt part page then Cached else Any)
-save_kind Record part = (if nat_lt part 5 then Cached else Any)
+save_kind Record part = (if nat_lt part RECORD_PART then Cached else Any)
 save_kind (Flush flushed) part = (if nat_lt part flushed then Ready else Cached)
 save_kind Fence part = Ready
 
@@ -128,7 +131,7 @@ other_kind (Checkpoint step) part = next_kind step part
 
 -- of the running pages
 abbrev pub running_kind : Stage → ℕ → Kind
-running_kind (Format Fill) page = (if nat_lt page 4 then Cached else Any)
+running_kind (Format Fill) page = (if nat_lt page PROGRAM_PAGE then Cached else Any)
 running_kind (Format (FormatSave step)) page = Cached
 running_kind (Format StoreWord) page = Cached
 running_kind (Format FlushWord) page = Cached

@@ -1,12 +1,14 @@
 -- How words stand for a state of the plain machine, and where they stand in the memory.
 use Rattle.std.specs.Prelude.{◌≡◌, ◌⊎◌, ℕ, ◌+◌, ◌-◌, ◌*◌, ◌/◌, ◌%◌, ◌^◌, ◌<◌, ◌≤◌, ◌==◌, nat_lt, if◌then◌else◌, List, [], length, slice_index, slice_index_or}
 use Rattle.std.specs.Int.{w64, to_le_bytes}
-use Rattle.sls_base.specs.declared.limits.TheConstants.{TABLE_WORDS, FRAME_WORDS, PAGE_BYTES, RING_ENTRIES, ENTRY_BYTES}
+use Rattle.sls_base.specs.declared.limits.TheConstants.{TABLE_WORDS, FRAME_WORDS, PAGE_BYTES, RING_ENTRIES, ENTRY_BYTES, CORE_SLICE}
 use Rattle.pmem_model.specs.Words.{Word}
 use Rattle.sls_kernel.specs.Plain.{State}
 use Rattle.sls_kernel.specs.declared.thread.Status.{Status}
 use Rattle.sls_kernel.specs.declared.thread.Status.TheVariants.{Ready, Running, Stopped}
 use Rattle.sls_kernel.specs.declared.thread.RunThread.{RunThread}
+use Rattle.sls_kernel.specs.declared.area.TheConstants.{FIRST_AREA, AREA_FRAMES, RECORD_PART}
+use Rattle.sls_kernel.specs.declared.record.TheConstants.{RECORD_WORDS, STATUS_WORD, PUT_WORD}
 
 -- Places. The state has six frames of words: pages 0 to 3, which are the rings of channels 0 to 3, page 4, which is the
 -- program's, and the thread's record. The running pages stand in one set of frames, and two areas have all six.
@@ -21,15 +23,15 @@ running_place page i = frame_place (2 * page) + i
 
 -- word i of a frame of an area
 abbrev pub area_place : ℕ → ℕ → ℕ → ℕ
-area_place area part i = frame_place (16 + 8 * area + part) + i
+area_place area part i = frame_place (FIRST_AREA + AREA_FRAMES * area + part) + i
 
 -- the area that has the state of a version
 abbrev pub area_of : ℕ → ℕ
 area_of version = version % 2
 
--- the words of a part: the record has 21, and a page has all of its frame
+-- the words of a part: a record's, and for a page all of its frame
 abbrev pub part_words : ℕ → ℕ
-part_words part = (if part == 5 then 21 else FRAME_WORDS)
+part_words part = (if part == RECORD_PART then RECORD_WORDS else FRAME_WORDS)
 
 -- Pages.
 
@@ -58,7 +60,7 @@ pub record IsRing (words : ℕ → ℕ) (accepted : ℕ) (out : List (List ℕ))
 -- what is left of a slice and the causes are in their range
 abbrev pub IsStatus : Status → Type 0
 IsStatus Ready = Unit {0}
-IsStatus (Running slice) = (1 ≤ slice) × (slice ≤ 16)
+IsStatus (Running slice) = (1 ≤ slice) × (slice ≤ CORE_SLICE)
 IsStatus (Stopped cause) = cause ≤ 6
 
 -- what every thread keeps
@@ -91,13 +93,14 @@ half_of t j = (if j == 0 then t.regs.pc else slice_index t.regs.x j)
 -- word i of the record: two halves each, then the thread's state, then the entries put on channels 0 to 3
 abbrev pub record_word : RunThread → (ℕ → ℕ) → ℕ → ℕ
 record_word t put i =
-    if nat_lt i 16 then half_of t (2 * i) + 2 ^ 32 * half_of t (2 * i + 1)
-    else (if i == 16 then status_word t.status else put (i - 17))
+    if nat_lt i STATUS_WORD then half_of t (2 * i) + 2 ^ 32 * half_of t (2 * i + 1)
+    else (if i == STATUS_WORD then status_word t.status else put (i - PUT_WORD))
 
--- what runs: the thread, the counts of entries put, and the cached words of the running pages are this state
+-- the cached words of the running pages
 abbrev pub running_words : (ℕ → Word) → ℕ → ℕ → ℕ
 running_words f page i = (f (running_place page i)).cached
 
+-- what runs: the thread, the counts of entries put, and the cached words of the running pages are this state
 pub record RunsAs (thread : RunThread) (put : List ℕ) (f : ℕ → Word) (accepted : ℕ → ℕ) (s : State) : Type 0 where
   pub thread_is : thread ≡ s.thread
   pub put_is : (channel : ℕ) → channel < 4 → slice_index put channel ≡ length (s.out channel)
@@ -107,6 +110,6 @@ pub record RunsAs (thread : RunThread) (put : List ℕ) (f : ℕ → Word) (acce
 abbrev pub Tells : List ℕ → (ℕ → ℕ) → Type 0
 Tells counts count = (channel : ℕ) → channel < 4 → slice_index counts channel ≡ count channel
 
--- a place that is in no frame of a running page
+-- a place in the table, or from the areas on: the running pages stand between
 abbrev pub IsOffPages : ℕ → Type 0
-IsOffPages i = (i < TABLE_WORDS) ⊎ (frame_place 16 ≤ i)
+IsOffPages i = (i < TABLE_WORDS) ⊎ (frame_place FIRST_AREA ≤ i)
