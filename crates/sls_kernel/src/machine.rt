@@ -408,7 +408,7 @@ impl Machine {
 
 #[tactic(auto, unfolding(crate::specs::Side::mode, crate::specs::Side::left, crate::specs::Shows::image_of, crate::specs::Shows::memory_of, crate::specs::Shows::accepted_of))]
 impl Off {
-    ghost use Rattle.std.specs.Prelude.{◌≢◌, ◌⊎◌, ◌≤◌, ℕ, IfOk, IfErr};
+    ghost use Rattle.std.specs.Prelude.{◌≢◌, ◌⊎◌, ◌↔◌, ◌≤◌, ℕ, IfOk, IfErr};
     ghost use Rattle.sls_base.specs.declared.limits.TheConstants.{CORES};
     ghost use Rattle.sls_kernel.specs.Plain.{World, first};
     ghost use Rattle.sls_kernel.specs.Program.{IsOfCode, program_bytes};
@@ -426,6 +426,7 @@ impl Off {
         requires cores { (1 ≤ cores) × (cores ≤ CORES) }
         requires one_core { durable_words self.nvm 0 ≡ 0 → cores ≡ 1 }
         ensures mode { IfOk result (λ m. (mode m ≡ Formatting) ⊎ (mode m ≡ Recovering)) }
+        ensures formats { IfOk result (λ m. (mode m ≡ Formatting) ↔ (durable_words self.nvm 0 ≡ 0)) }
         ensures fewer { IfOk result (λ m. left m ≤ 17) }
         ensures image_is { IfOk result (λ m. image_of m ≡ program_bytes image.now) }
         ensures memory { IfOk result (λ m. memory_of m ≡ self.nvm) }
