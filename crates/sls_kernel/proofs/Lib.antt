@@ -17,3 +17,4 @@ pub mod Recovers
 pub mod Begins
 pub mod Accepts
 pub mod Ticks
+pub mod Plays

@@ -7,3 +7,4 @@ pub mod Stages
 pub mod Program
 pub mod Shows
 pub mod Side
+pub mod Play

@@ -7,6 +7,7 @@ mod calls;
 mod machine;
 mod memory;
 mod page;
+mod play;
 mod program;
 mod put;
 mod record;
@@ -18,6 +19,7 @@ mod thread;
 pub use answers::{Asked, BootRefused, Did, LightCause, LightRefused, Why};
 pub use calls::Refusal;
 pub use machine::{Machine, Off};
+pub use play::{Answer, BootPlayBroken, Event, PlayBroken, Played, play_from_boot};
 pub use thread::{RunThread, Status};
 
 #[cfg(test)]

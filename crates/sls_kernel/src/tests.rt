@@ -9,6 +9,8 @@ use std::alloc::Global;
 use std::process::Abort;
 use std::test::Fail;
 
+mod play;
+
 /// A program that counts up in its page and puts each count, of four bytes, on channel 0: nine instructions a round.
 const CODE: [u32; 9] = [
     0x0400_2283, // lw x5, 64(x0)
