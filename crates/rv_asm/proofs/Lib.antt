@@ -1,0 +1,14 @@
+pub mod Pieces
+pub mod Digits
+pub mod Feeds
+pub mod Steps
+pub mod Tokens
+pub mod Operands
+pub mod Numbers
+pub mod Bytes
+pub mod Named
+pub mod Shapes
+pub mod Spelled
+pub mod Read
+pub mod Rows
+pub mod Round

@@ -1,0 +1,10 @@
+pub mod Bytes
+pub mod Text
+pub mod Operand
+pub mod Names
+pub mod Statement
+pub mod View
+pub mod Program
+pub mod Lines
+pub mod Told
+pub mod Printed

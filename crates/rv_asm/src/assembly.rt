@@ -1,0 +1,64 @@
+//! From a text to the words of its program.
+
+ghost use Rattle.std.specs.Prelude.{◌≡◌, ◌+◌, ◌++◌, IfOk, IfErr, OnOk, length, vec_len};
+ghost use Rattle.std.specs.Option.{option_to_list};
+ghost use Rattle.rv_asm.specs.Program.{fault_in, IsAssembled};
+ghost use Rattle.rv_asm.specs.Told.{IsTold};
+
+use crate::error::{AsmCause, AsmError};
+use crate::lines::program_of;
+use crate::program::word_of;
+use std::alloc::{AllocError, Global};
+
+/// The bytes that a text may have.
+const MOST_BYTES: usize = 65_536;
+
+/// The words of a program.
+///
+/// # Errors
+///
+/// `Bad` names the first line at fault, counted from 1, and the first of its causes; line 0 with `Long` is a text of
+/// more than 65,536 bytes. `Memory` where memory runs out.
+#[tactic(auto, unfolding(crate::specs::Program::fault_in, crate::specs::Program::IsAssembled))]
+pub fn assemble(alloc: Global, text: &[u8]) -> Result<Vec<u32>, AsmError>
+    ensures ok { IfOk result (λ words. IsAssembled text.now words.items) }
+    ensures bad { IfErr result (IsTold (fault_in text.now)) }
+{
+    if text.len() > MOST_BYTES {
+        return Err(AsmError::Bad {
+            line: 0,
+            cause: AsmCause::Long,
+        });
+    }
+    let program = match program_of(alloc, text) {
+        Ok(program) => program,
+        Err(error) => return Err(AsmError::Memory(error)),
+    };
+    let mut words = Vec::new(alloc);
+    for k in 0..program.len() {
+        let found = match word_of(&program, &program[..k], &program[k], words.len()) {
+            Ok(found) => found,
+            Err(cause) => {
+                return Err(AsmError::Bad {
+                    line: k as u32 + 1,
+                    cause,
+                });
+            }
+        };
+        if let Err(error) = push_found(&mut words, found) {
+            return Err(AsmError::Memory(error));
+        }
+    }
+    Ok(words)
+}
+
+/// Adds a word, where there is one.
+fn push_found(words: &mut Vec<u32>, found: Option<u32>) -> Result<(), AllocError>
+    ensures items { OnOk result (words.new.items ≡ words.old.items ++ option_to_list found) }
+    ensures len { OnOk result (vec_len words.new ≡ vec_len words.old + length (option_to_list found)) }
+{
+    if let Some(word) = found {
+        words.push(word)?;
+    }
+    Ok(())
+}
