@@ -7,32 +7,38 @@ use Rattle.rv_table.specs.declared.Instr.{Instr}
 use Rattle.rv_table.specs.declared.Instr.TheVariants.{Lui, Auipc, Jal, Jalr, Branch, Load, Store, OpImm, Op as OpRow, Fence, Ecall, Ebreak}
 use Rattle.rv_table.specs.Decoded.{decoded}
 
--- names by funct3, with nothing where no row has it
+-- the names of branches by funct3, with nothing where no branch has it
 abbrev pub branch_names : List (List ℕ)
 branch_names =
     codes "beq" ∷ codes "bne" ∷ [] ∷ [] ∷ codes "blt" ∷ codes "bge" ∷ codes "bltu" ∷ codes "bgeu" ∷ []
 
+-- of loads
 abbrev pub load_names : List (List ℕ)
 load_names = codes "lb" ∷ codes "lh" ∷ codes "lw" ∷ [] ∷ codes "lbu" ∷ codes "lhu" ∷ []
 
+-- of stores
 abbrev pub store_names : List (List ℕ)
 store_names = codes "sb" ∷ codes "sh" ∷ codes "sw" ∷ []
 
+-- of operations with an immediate
 abbrev pub immediate_names : List (List ℕ)
 immediate_names =
     codes "addi" ∷ codes "slli" ∷ codes "slti" ∷ codes "sltiu" ∷ codes "xori" ∷ codes "srli" ∷ codes "ori" ∷ codes "andi" ∷ []
 
+-- of operations on registers
 abbrev pub register_names : List (List ℕ)
 register_names =
     codes "add" ∷ codes "sll" ∷ codes "slt" ∷ codes "sltu" ∷ codes "xor" ∷ codes "srl" ∷ codes "or" ∷ codes "and" ∷ []
 
+-- the name at a number
 abbrev pub name_at : List (List ℕ) → ℕ → List ℕ
 name_at names op = unwrap_or (slice_get names op) []
 
--- of the operations with an immediate and with registers; the second form is SRAI, and SUB or SRA
+-- an operation with an immediate; its second form, where funct7 is 0x20, is SRAI
 abbrev pub immediate_name : ℕ → Bool → List ℕ
 immediate_name op alt = if alt then codes "srai" else name_at immediate_names op
 
+-- an operation on registers; its second form is SUB or SRA
 abbrev pub register_name : ℕ → Bool → List ℕ
 register_name op alt =
     if alt then (if op == 0 then codes "sub" else codes "sra") else name_at register_names op

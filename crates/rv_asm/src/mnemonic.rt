@@ -5,7 +5,7 @@ ghost use Rattle.std.specs.Str.{bytes_eq};
 ghost use Rattle.rv_asm.specs.Names;
 
 /// What the first word of an instruction names. `op` is funct3; `alt` is that of SUB, SRA and SRAI.
-#[derive(Clone, Copy, PartialEq, Eq, Debug)]
+#[derive(Clone, Copy)]
 pub enum Mnemonic {
     Lui,
     Auipc,

@@ -12,7 +12,7 @@ const DECIMAL: u32 = 10;
 const HEXADECIMAL: u32 = 16;
 
 /// A number as it is spelled, with a magnitude of at most 2^32.
-#[derive(Clone, Copy, PartialEq, Eq, Debug)]
+#[derive(Clone, Copy)]
 pub struct Number {
     pub negative: bool,
     pub magnitude: u64,
