@@ -1,5 +1,5 @@
 -- Which answers the plain machine allows to a list of events, and its world after them.
-use Rattle.std.specs.Prelude.{◌≡◌, ◌≢◌, ◌⊎◌, ℕ, ◌<◌, ◌≤◌, List, [], ◌∷◌, ◌++◌, Option, IfSome, IfNone}
+use Rattle.std.specs.Prelude.{◌≡◌, ◌≢◌, ◌⊎◌, ◌↔◌, ℕ, ◌<◌, ◌≤◌, List, [], ◌∷◌, ◌++◌, Option, IfSome, IfNone}
 use Rattle.sls_base.specs.declared.limits.TheConstants.{WORDS, OUTPUT_CHANNELS}
 use Rattle.sls_base.specs.declared.image.Image.{Image}
 use Rattle.pmem_model.specs.Words.{is_within, writes_back, cuts}
@@ -48,10 +48,12 @@ booted nvm = record { doing = Formatting; turns = 17; memory = nvm }
 
 -- One event.
 
--- how a turn with this answer goes: where the machine doesn't run there are fewer turns left
+-- how a turn with this answer goes: where the machine doesn't run there are fewer turns left, and none is left exactly where
+-- it then runs
 pub record TurnGoes (old : Side) (did : Did) (new : Side) : Type 0 where
   pub doing : ModeGoes old.doing did new.doing
   pub turns : (old.doing ≡ Running) ⊎ (new.turns < old.turns)
+  pub end : (new.turns ≡ 0) ↔ (new.doing ≡ Running)
 
 -- how an ask with this answer goes: it begins a checkpoint of 16 turns, or nothing changes
 pub record AskedGoes (old : Side) (asked : Asked) (new : Side) : Type 0 where
@@ -61,13 +63,13 @@ pub record AskedGoes (old : Side) (asked : Asked) (new : Side) : Type 0 where
   pub turns : asked ≡ Started → new.turns ≡ 16
   pub same : asked ≢ Started → new ≡ old
 
--- how a write-back with this answer goes: that word becomes durable, and either that commits a checkpoint with at most 2
--- turns left, or the machine goes on as before
+-- how a write-back with this answer goes: that word becomes durable, as many turns are left, and either that commits a
+-- checkpoint with at most 2 turns left, or the machine goes on as before
 pub record WriteBackGoes (word : ℕ) (old : Side) (version : Option ℕ) (new : Side) : Type 0 where
   pub words : (i : ℕ) → word_at new.memory i ≡ writes_back (is_within word 1) (word_at old.memory) i
   pub none : IfNone version ((new.doing ≡ old.doing) × (new.turns ≡ old.turns))
   pub commit : IfSome version (λ v. (old.doing ≡ BeforeCommit) × (new.doing ≡ AfterCommit) × (old.turns ≤ 2))
-  pub turns : new.turns ≤ old.turns
+  pub turns : new.turns ≡ old.turns
 
 -- after a cut the machine recovers; it formats where the memory has no format word, and then it formatted before
 abbrev pub BeginsAgain : Side → Side → Type 0

@@ -7,13 +7,13 @@ pub returns-in-Turn-clause-world : goal.returns-in-Turn-clause-world
 returns-in-Turn-clause-world c = λ w s.
     let e = c.turn-did.ensures in
     let world = e.world w s in
-    rw c.in-Turn.is ((record { doing = e.goes; turns = e.fewer }, world.0), world.1)
+    rw c.in-Turn.is ((record { doing = e.goes; turns = e.fewer; end = e.end }, world.0), world.1)
 
 pub returns-in-WriteBack-clause-world : goal.returns-in-WriteBack-clause-world
 returns-in-WriteBack-clause-world c = λ w s.
     let e = c.write_back-version.ensures in
     let world = e.world w s in
-    rw c.in-WriteBack.is ((record { words = e.words; none = e.none; commit = e.commit; turns = e.no_more }, world.0), world.1)
+    rw c.in-WriteBack.is ((record { words = e.words; none = e.none; commit = e.commit; turns = e.left }, world.0), world.1)
 
 pub returns-in-Ok-clause-world : goal.returns-in-Ok-clause-world
 returns-in-Ok-clause-world c = λ w s.
