@@ -1,0 +1,2 @@
+pub mod RightsLemmas
+pub mod GroupLemmas

@@ -1,0 +1,13 @@
+//! Capabilities and groups: what a program may do with which object, and the slots in which it holds that.
+#![tactic(auto)]
+
+mod cap;
+mod group;
+mod laws;
+
+pub use cap::Cap;
+pub use group::Group;
+pub use laws::{one_lowest_free, rights_by_bits};
+
+#[cfg(test)]
+mod tests;
