@@ -1,0 +1,8 @@
+use Rattle.mem_space.proofs.SpaceLemmas as space
+use Rattle.mem_space.proofs.laws.one_region.Goals as goal
+
+pub returns-clause-region : goal.returns-clause-region
+returns-clause-region c = space.one_region
+
+pub returns-clause-place : goal.returns-clause-place
+returns-clause-place c = space.one_place
