@@ -1,0 +1,11 @@
+pub mod Places
+pub mod Members
+pub mod Shapes
+pub mod Chains
+pub mod Stands
+pub mod Emptied
+pub mod Pushed
+pub mod Unlinked
+pub mod Moved
+pub mod Reading
+pub mod Walk
