@@ -1,5 +1,8 @@
 pub mod Parts
 pub mod Numbers
-pub mod Steps
+pub mod Progress
 pub mod Ranges
 pub mod Order
+pub mod Places
+pub mod Misplaced
+pub mod Verdicts

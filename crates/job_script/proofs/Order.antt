@@ -1,18 +1,17 @@
--- Lines that are read in order are a job.
-use Rattle.std.proofs.Common.{◌≡◌, ℕ, ◌+◌, ◌^◌, ◌<◌, ◌≤◌, Bool, true, false, cond, nat_lt, List, [], ◌∷◌, ◌++◌, length, map, Option, Some, None, refl, sym, ap, ◌∙◌, subst, arith, ltb-true, leb-true, ltb}
-use Rattle.std.specs.Prelude.{option_and_then, option_map, unwrap_or, ◌==◌}
+-- Lines that lead from the start of the form to its end are a job.
+use Rattle.std.proofs.Common.{◌≡◌, ℕ, ◌+◌, ◌^◌, ◌<◌, ◌≤◌, Bool, true, false, cond, List, [], ◌∷◌, ◌++◌, length, map, Result, Ok, Err, refl, sym, ap, ◌∙◌, subst, arith, ltb-true, leb-true, ltb}
 use Rattle.std.specs.List.{AllByRecursion}
 use Rattle.std.proofs.lemmas.List.{append-nil}
+use Rattle.job_script.specs.declared.fault.JobCause.{JobCause}
+use Rattle.job_script.specs.declared.fault.JobCause.TheVariants.{Order}
 use Rattle.job_script.specs.declared.line.Line.{Line}
 use Rattle.job_script.specs.declared.line.Line.TheVariants.{Cores, Code, Run, Checkpoint, Cut, Take, End}
 use Rattle.job_script.specs.declared.place.Place.{Place}
 use Rattle.job_script.specs.declared.place.Place.TheVariants.{Start, Program, Actions, Ended}
-use Rattle.job_script.specs.Text.{lines_of, fields_of}
-use Rattle.job_script.specs.Lines.{line_of}
+use Rattle.job_script.specs.Steps.{◌>>=◌}
 use Rattle.job_script.specs.Form.{after, after_word, after_action}
 use Rattle.job_script.specs.Job.{words_of, actions_of, draws_of, IsAction, IsJob}
-use Rattle.job_script.specs.Grammar.{line_at, lines_from, at_end}
-use Rattle.job_script.proofs.Ranges.{InRange, line_in_range}
+use Rattle.job_script.proofs.Ranges.{InRange}
 
 -- actions and `end`, behind some draws
 record AreActions (draws : ℕ) (lines : List Line) : Type 0 where
@@ -40,15 +39,19 @@ Follows (Actions draws) lines = draws ≤ 2000000 → AreActions draws lines
 Follows Ended lines = lines ≡ []
 
 -- what a test chose
-kept : {A : Type 0} (b : Bool) (o : Option A) (y : A) → cond b o None ≡ Some y → (b ≡ true) × (o ≡ Some y)
-kept true o y h = (refl, h)
-kept false o y h = cc
+pub kept : {A : Type 0} (b : Bool) (read : Result A JobCause) (cause : JobCause) (y : A) → cond b read (Err cause) ≡ Ok y → (b ≡ true) × (read ≡ Ok y)
+kept true read cause y h = (refl, h)
+kept false read cause y h = cc
 
-bound_some : {A B : Type 0} (f : A → Option B) (o : Option A) (y : B) → option_and_then f o ≡ Some y → (x : A) × (o ≡ Some x) × (f x ≡ Some y)
-bound_some f None y h = cc
-bound_some f (Some x) y h = (x, refl, h)
+-- what was found before it was gone on with
+pub found : {A B : Type 0} (f : A → Result B JobCause) (read : Result A JobCause) (y : B) → (read >>= f) ≡ Ok y → (x : A) × (read ≡ Ok x) × (f x ≡ Ok y)
+found f (Err cause) y h = cc
+found f (Ok x) y h = (x, refl, h)
 
-at_place : (p q : Place) (others : List Line) → Some p ≡ Some q → Follows q others → Follows p others
+abbrev to_place : Place → Result Place JobCause
+to_place p = Ok p
+
+at_place : (p q : Place) (others : List Line) → to_place p ≡ to_place q → Follows q others → Follows p others
 at_place p q others e f = let same : q ≡ p = cc in let P : Place → Type 0 = λ r. Follows r others in subst P same f
 
 -- an action that takes no draw
@@ -60,10 +63,10 @@ plain draws line others is none rest = record {
   few = rw none rest.few;
 }
 
-action_step : (draws : ℕ) (line : Line) (next : Place) (others : List Line) → after_action draws line ≡ Some next → InRange line → Follows next others → draws ≤ 2000000 → AreActions draws (line ∷ others)
+action_step : (draws : ℕ) (line : Line) (next : Place) (others : List Line) → after_action draws line ≡ Ok next → InRange line → Follows next others → draws ≤ 2000000 → AreActions draws (line ∷ others)
 unfolding Follows
 action_step draws (Run n) next others e is f le =
-    let went = kept _ (Some (Actions (draws + n))) _ e in
+    let went = kept _ (Ok (Actions (draws + n))) _ _ e in
     let rest = at_place (Actions (draws + n)) next others went.1 f (leb-true _ _ went.0) in
     record {
       actions = Run n ∷ rest.actions;
@@ -84,9 +87,9 @@ action_step draws (Cores n) next others e is f le = absurd (cc)
 action_step draws (Code word) next others e is f le = absurd (cc)
 
 -- the first action
-first_action : (words : ℕ) (line : Line) (next : Place) (others : List Line) → cond (ltb 0 words) (after_action 0 line) None ≡ Some next → InRange line → Follows next others → words ≤ 1024 → IsProgram words (line ∷ others)
+first_action : (words : ℕ) (line : Line) (next : Place) (others : List Line) → cond (ltb 0 words) (after_action 0 line) (Err Order) ≡ Ok next → InRange line → Follows next others → words ≤ 1024 → IsProgram words (line ∷ others)
 first_action words line next others e is f le =
-    let went = kept _ (after_action 0 line) _ e in
+    let went = kept _ (after_action 0 line) _ _ e in
     let rest = action_step 0 line next others went.1 is f (omega arith) in
     record {
       words = [];
@@ -99,10 +102,10 @@ first_action words line next others e is f le =
       draws = omega (arith, rest.few);
     }
 
-word_step : (words : ℕ) (line : Line) (next : Place) (others : List Line) → after_word words line ≡ Some next → InRange line → Follows next others → words ≤ 1024 → IsProgram words (line ∷ others)
+word_step : (words : ℕ) (line : Line) (next : Place) (others : List Line) → after_word words line ≡ Ok next → InRange line → Follows next others → words ≤ 1024 → IsProgram words (line ∷ others)
 unfolding Follows
 word_step words (Code word) next others e is f le =
-    let went = kept _ (Some (Program (words + 1))) _ e in
+    let went = kept _ (Ok (Program (words + 1))) _ _ e in
     let rest = at_place (Program (words + 1)) next others went.1 f (omega (arith, ltb-true _ _ went.0)) in
     record {
       words = word ∷ rest.words;
@@ -116,7 +119,7 @@ word_step words (Code word) next others e is f le =
     }
 word_step words line next others e is f le = first_action words line next others e is f le
 
-step : (place : Place) (line : Line) (next : Place) (others : List Line) → after place line ≡ Some next → InRange line → Follows next others → Follows place (line ∷ others)
+step : (place : Place) (line : Line) (next : Place) (others : List Line) → after place line ≡ Ok next → InRange line → Follows next others → Follows place (line ∷ others)
 unfolding Follows
 step Start (Cores n) next others e is f =
     (others, ap (λ (m : ℕ). Cores m ∷ others) is, at_place (Program 0) next others e f (omega arith))
@@ -124,38 +127,6 @@ step Start line next others e is f = absurd (cc)
 step (Program words) line next others e is f = word_step words line next others e is f
 step (Actions draws) line next others e is f = action_step draws line next others e is f
 step Ended line next others e is f = absurd (cc)
-
-ended : (place : Place) (rest : List ℕ) (lines : List Line) → at_end place rest ≡ Some lines → Follows place lines
-unfolding Follows
-ended Ended rest lines h = let went = kept (length rest == 0) (Some []) _ h in let same : lines ≡ [] = cc in same
-ended place rest lines h = absurd (cc)
-
-unlimited : (b : Bool) (o : Option Line) (line : Line) → cond b None o ≡ Some line → o ≡ Some line
-unlimited true o line h = absurd (cc)
-unlimited false o line h = h
-
-line_gives : (n : ℕ) (place : Place) (text : List ℕ) (read : Line × Place) → line_at n place text ≡ Some read → InRange read.0 × (after place read.0 ≡ Some read.1)
-unfolding line_at
-line_gives n place text read h =
-    let one = bound_some _ (cond (nat_lt 4096 n) None (line_of (fields_of text))) _ h in
-    let two = bound_some _ (after place one.0) _ one.2 in
-    let line : one.0 ≡ read.0 = ap (λ (o : Option (Line × Place)). unwrap_or (option_map (λ (r : Line × Place). r.0) o) one.0) two.2 in
-    let next : two.0 ≡ read.1 = ap (λ (o : Option (Line × Place)). unwrap_or (option_map (λ (r : Line × Place). r.1) o) two.0) two.2 in
-    let spelled = line_in_range (fields_of text) one.0 (unlimited (nat_lt 4096 n) _ _ one.1) in
-    let P : Line → Type 0 = λ l. InRange l in
-    (subst P line spelled, ap (after place) (sym line) ∙ two.1 ∙ ap Some next)
-
-follows : (n : ℕ) (place : Place) (parts : List (List ℕ)) (lines : List Line) → lines_from n place parts ≡ Some lines → Follows place lines
-unfolding lines_from
-follows n place [] lines h = absurd (cc)
-follows n place (rest ∷ []) lines h = ended place rest lines h
-follows n place (text ∷ part ∷ parts) lines h =
-    let one = bound_some _ (line_at n place text) _ h in
-    let two = bound_some _ (lines_from (n + 1) one.0.1 (part ∷ parts)) _ one.2 in
-    let spelled = line_gives n place text one.0 one.1 in
-    let rest = step place one.0.0 one.0.1 two.0 spelled.1 spelled.0 (follows (n + 1) one.0.1 (part ∷ parts) two.0 two.1) in
-    let same : one.0.0 ∷ two.0 ≡ lines = cc in
-    let P : List Line → Type 0 = λ ls. Follows place ls in subst P same rest
 
 -- what is gathered from a program, and from actions
 words_of_program : (words : List ℕ) (rest : List Line) → words_of (map Code words ++ rest) ≡ words ++ words_of rest
@@ -206,9 +177,20 @@ job_of_parts others parts =
       draws = rw draws parts.draws;
     }
 
--- the lines of a text that is a job are a job
-pub job_of_text : (text : List ℕ) (lines : List Line) → lines_from 1 Start (lines_of text) ≡ Some lines → IsJob lines
+-- the place behind some lines
+abbrev pub places : Place → List Line → Result Place JobCause
+places place [] = Ok place
+places place (line ∷ more) = after place line >>= (λ next. places next more)
+
+follows : (place : Place) (lines : List Line) → places place lines ≡ Ok Ended → AllByRecursion InRange lines → Follows place lines
 unfolding Follows
-job_of_text text lines h =
-    let parts = follows 1 Start (lines_of text) lines h in
-    let P : List Line → Type 0 = λ ls. IsJob ls in subst P (sym parts.1) (job_of_parts parts.0 parts.2)
+follows place [] e fits = at_place place Ended [] e refl
+follows place (line ∷ more) e fits =
+    let one = found (λ next. places next more) (after place line) Ended e in
+    step place line one.0 more one.1 fits.0 (follows one.0 more one.2 fits.1)
+
+pub job_of_places : (lines : List Line) → places Start lines ≡ Ok Ended → AllByRecursion InRange lines → IsJob lines
+unfolding Follows
+job_of_places lines e fits =
+    let parts = follows Start lines e fits in
+    let P : List Line → Type 0 = λ l. IsJob l in subst P (sym parts.1) (job_of_parts parts.0 parts.2)

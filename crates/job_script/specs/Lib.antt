@@ -1,6 +1,8 @@
 pub mod Text
-pub mod Fields
+pub mod Operands
+pub mod Steps
 pub mod Lines
 pub mod Form
 pub mod Job
 pub mod Grammar
+pub mod Language

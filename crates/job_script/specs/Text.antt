@@ -1,20 +1,18 @@
--- The parts of a text: lines, fields and numbers.
-use Rattle.std.specs.Prelude.{ℕ, ◌^◌, Bool, ◌&&◌, List, length, Option, Some, None, nat_lt, nat_le, ◌==◌, if◌then◌else◌}
+-- The parts of a text: fields and numbers. Its lines are those of `Rattle.std.specs.Str.Lines`: LF or CR LF ends each, and the last may lack it.
+use Rattle.std.specs.Prelude.{ℕ, ◌^◌, Bool, ◌&&◌, List, length, filter, Option, Some, None, Result, Ok, Err, nat_lt, nat_le, ◌==◌, if◌then◌else◌}
 use Rattle.std.specs.List.{slice_split, list_all}
 use Rattle.std.specs.Char.{is_digit}
 use Rattle.std.specs.Str.Parse.{digits_value}
+use Rattle.job_script.specs.declared.fault.JobCause.{JobCause}
+use Rattle.job_script.specs.declared.fault.JobCause.TheVariants.{Number, Hex}
 
 -- what stands round each byte of this value
 abbrev pub parts_round : ℕ → List ℕ → List (List ℕ)
 parts_round mark text = slice_split (λ b. b == mark) text
 
--- the lines of a text, which LF (10) ends, and what stands after the last LF
-abbrev pub lines_of : List ℕ → List (List ℕ)
-lines_of text = parts_round 10 text
-
--- the fields of a line, which stand apart by one space (32)
+-- the fields of a line: what stands round its spaces (32), but for nothing
 abbrev pub fields_of : List ℕ → List (List ℕ)
-fields_of line = parts_round 32 line
+fields_of line = filter (λ part. nat_lt 0 (length part)) (parts_round 32 line)
 
 -- each byte is a digit
 abbrev pub all_digits : ℕ → List ℕ → Bool
@@ -25,10 +23,16 @@ unfoldable pub value_of : ℕ → List ℕ → Option ℕ
 value_of radix field =
     if all_digits radix field && nat_lt (digits_value radix field) (2 ^ 64) then Some (digits_value radix field) else None
 
+-- the value, or the fault
+abbrev pub or_fault : JobCause → Option ℕ → Result ℕ JobCause
+or_fault cause (Some n) = Ok n
+or_fault cause None = Err cause
+
 -- a number: 1 to 20 decimal digits, and a value below 2 ^ 64
-unfoldable pub number_of : List ℕ → Option ℕ
-number_of field = if nat_le 1 (length field) && nat_le (length field) 20 then value_of 10 field else None
+unfoldable pub number_of : List ℕ → Result ℕ JobCause
+number_of field =
+    if nat_le 1 (length field) && nat_le (length field) 20 then or_fault Number (value_of 10 field) else Err Number
 
 -- a word of the program: eight hexadecimal digits of either case
-unfoldable pub word_of : List ℕ → Option ℕ
-word_of field = if length field == 8 then value_of 16 field else None
+unfoldable pub word_of : List ℕ → Result ℕ JobCause
+word_of field = if length field == 8 then or_fault Hex (value_of 16 field) else Err Hex

@@ -2,13 +2,15 @@
 #![tactic(auto)]
 
 mod fault;
-mod fields;
+mod laws;
 mod line;
 mod number;
 mod place;
 mod reading;
+mod text;
 
 pub use fault::{JobCause, JobError};
+pub use laws::language;
 pub use line::{Job, Line};
 pub use reading::read_job;
 

@@ -2,19 +2,20 @@
 
 ghost use Rattle.std.specs.Prelude.{◌≡◌, IfOk, IfErr};
 ghost use Rattle.job_script.specs.Text.{fields_of};
-ghost use Rattle.job_script.specs.Lines.{line_of, cores_of, take_of};
+ghost use Rattle.job_script.specs.Lines.{cores_of, take_of, line_of, said_by};
 ghost use Rattle.job_script.specs.Grammar.{Good, verdict, Refuses, line_at};
 ghost use Rattle.job_script.specs.Job.{IsJob};
 
 use crate::fault::{JobCause, JobError};
-use crate::fields::{Fields, cut_at, fields_of};
 use crate::line::{Job, Line};
 use crate::number::{number_of, word_of};
 use crate::place::Place;
-use sls_base::OUTPUT_CHANNELS;
+use crate::text::{Operands, first_field, first_line, operands_of};
+use sls_base::{CORES, OUTPUT_CHANNELS};
 use std::alloc::Global;
 
-const LINE_FEED: u8 = b'\n';
+/// What begins a comment.
+const HASH: u8 = b'#';
 
 /// The most bytes of a text.
 const TEXT_BYTES: usize = 65_536;
@@ -22,67 +23,87 @@ const TEXT_BYTES: usize = 65_536;
 /// The most lines of a text.
 const TEXT_LINES: u32 = 4_096;
 
-/// The one refusal.
-const REFUSED: JobError = JobError::Bad {
-    line: 0,
-    cause: JobCause::Word,
-};
-
-/// The line `cores N`: the machine has one core.
+/// The line `cores N`: there is none yet for more than one core.
 #[tactic(auto, unfolding(crate::specs::Lines::cores_of))]
-fn cores_of(field: &[u8]) -> Option<Line>
+fn cores_of(field: &[u8]) -> Result<Line, JobCause>
     ensures { result ≡ cores_of field.now }
 {
     match number_of(field)? {
-        1 => Some(Line::Cores(1)),
-        _ => None,
+        1 => Ok(Line::Cores(1)),
+        n if 2 <= n && n <= CORES as u64 => Err(JobCause::Word),
+        _ => Err(JobCause::Number),
     }
 }
 
 /// The line `take C N`.
 #[tactic(auto, unfolding(crate::specs::Lines::take_of))]
-fn take_of(channel: &[u8], n: &[u8]) -> Option<Line>
+fn take_of(channel: &[u8], n: &[u8]) -> Result<Line, JobCause>
     ensures { result ≡ take_of channel.now n.now }
 {
     let channel = number_of(channel)?;
     let n = number_of(n)?;
     if channel >= OUTPUT_CHANNELS as u64 {
-        return None;
+        return Err(JobCause::Number);
     }
-    Some(Line::Take {
+    Ok(Line::Take {
         channel: channel as u8,
         n,
     })
 }
 
-/// What a line says.
+/// What a word and the operands that follow it say.
 #[tactic(auto, unfolding(crate::specs::Lines::line_of))]
-fn line_of(text: &[u8]) -> Option<Line>
-    ensures { result ≡ line_of (fields_of text.now) }
+fn line_of(word: &[u8], rest: &[u8]) -> Result<Line, JobCause>
+    ensures { result ≡ line_of word.now (fields_of rest.now) }
 {
-    match fields_of(text) {
-        Fields::One(b"checkpoint") => Some(Line::Checkpoint),
-        Fields::One(b"end") => Some(Line::End),
-        Fields::Two(b"cores", n) => cores_of(n),
-        Fields::Two(b"code", word) => Some(Line::Code(word_of(word)?)),
-        Fields::Two(b"run", n) => Some(Line::Run(number_of(n)?)),
-        Fields::Two(b"cut", seed) => Some(Line::Cut(number_of(seed)?)),
-        Fields::Three(b"take", channel, n) => take_of(channel, n),
-        _ => None,
+    match operands_of(rest) {
+        Operands::None => match word {
+            b"checkpoint" => Ok(Line::Checkpoint),
+            b"end" => Ok(Line::End),
+            _ => Err(JobCause::Word),
+        },
+        Operands::One(operand) => match word {
+            b"cores" => cores_of(operand),
+            b"code" => Ok(Line::Code(word_of(operand)?)),
+            b"run" => Ok(Line::Run(number_of(operand)?)),
+            b"cut" => Ok(Line::Cut(number_of(operand)?)),
+            _ => Err(JobCause::Word),
+        },
+        Operands::Two(first, second) => match word {
+            b"take" => take_of(first, second),
+            _ => Err(JobCause::Word),
+        },
+        Operands::More => Err(JobCause::Word),
+    }
+}
+
+/// What a line says: nothing where it has no field or is a comment.
+#[tactic(auto, unfolding(crate::specs::Lines::said_by))]
+fn said_by(text: &[u8]) -> Result<Option<Line>, JobCause>
+    ensures { result ≡ said_by (fields_of text.now) }
+{
+    match first_field(text) {
+        None => Ok(None),
+        Some(([HASH, ..], _)) => Ok(None),
+        Some((word, rest)) => Ok(Some(line_of(word, rest)?)),
     }
 }
 
 /// What a line says at a place of the form, and the place after it.
 #[tactic(auto, unfolding(crate::specs::Grammar::line_at))]
-fn line_at(number: u32, place: Place, text: &[u8]) -> Option<(Line, Place)>
+fn line_at(number: u32, place: Place, text: &[u8]) -> Result<(Option<Line>, Place), JobCause>
     ensures { result ≡ line_at number place text.now }
 {
     if number > TEXT_LINES {
-        return None;
+        return Err(JobCause::Lines);
     }
-    let line = line_of(text)?;
-    let next = place.after(line)?;
-    Some((line, next))
+    match said_by(text)? {
+        None => Ok((None, place)),
+        Some(line) => {
+            let next = place.after(line)?;
+            Ok((Some(line), next))
+        }
+    }
 }
 
 /// Reads a job: its lines in order, or the line and the cause at which the text is no job.
@@ -92,23 +113,35 @@ pub fn read_job(alloc: Global, bytes: &[u8]) -> Result<Job, JobError>
     ensures refused { IfErr result (λ e. Refuses e (verdict bytes.now)) }
 {
     if bytes.len() > TEXT_BYTES {
-        return Err(REFUSED);
+        return Err(JobError::Bad {
+            line: 0,
+            cause: JobCause::TooLong,
+        });
     }
     let mut lines = Vec::new(alloc);
     let mut place = Place::Start;
     let mut number = 1;
     let mut rest = bytes;
-    while let Some((text, after)) = cut_at(rest, LINE_FEED) {
-        let Some((line, next)) = line_at(number, place, text) else {
-            return Err(REFUSED);
+    while let Some((text, after)) = first_line(rest) {
+        let (said, next) = match line_at(number, place, text) {
+            Ok(read) => read,
+            Err(cause) => return Err(JobError::Bad {
+                line: number,
+                cause,
+            }),
         };
-        lines.push(line)?;
+        if let Some(line) = said {
+            lines.push(line)?;
+        }
         place = next;
         number += 1;
         rest = after;
     }
     match place {
-        Place::Ended if rest.is_empty() => Ok(Job { lines }),
-        _ => Err(REFUSED),
+        Place::Ended => Ok(Job { lines }),
+        _ => Err(JobError::Bad {
+            line: number,
+            cause: JobCause::NoEnd,
+        }),
     }
 }

@@ -1,23 +1,24 @@
 use super::*;
+use std::alloc::{AllocError, Global};
 use std::test::Fail;
 
-/// What a text is read as.
-fn read(rt: &HostRuntime, text: &[u8]) -> Result<Job, JobError> {
-    read_job(rt.alloc(), text)
+/// The lines of a text that is a job.
+fn lines_of(rt: &HostRuntime, text: &[u8]) -> Result<Vec<Line>, Fail> {
+    let job = read_job(rt.alloc(), text).ok().ok_or("the text is a job")?;
+    Ok(job.lines)
 }
 
-/// A text that is the one refusal.
-fn is_refused(rt: &HostRuntime, text: &[u8]) -> bool {
+/// The line at fault and its cause.
+fn fault_of(rt: &HostRuntime, text: &[u8]) -> Option<(u32, JobCause)> {
     match read_job(rt.alloc(), text) {
-        Err(JobError::Bad { line, cause }) => line == 0 && cause == JobCause::Word,
-        _ => false,
+        Err(JobError::Bad { line, cause }) => Some((line, cause)),
+        _ => None,
     }
 }
 
-/// A job's text round some actions.
-fn with_actions(rt: &HostRuntime, actions: &[u8]) -> Result<Vec<u8>, Fail> {
-    let mut text = Vec::new(rt.alloc());
-    text.extend_from_slice(b"cores 1\ncode 0000006f\n")?;
+/// A text of `cores 1`, one word and some actions.
+fn with_actions(alloc: Global, actions: &[u8]) -> Result<Vec<u8>, AllocError> {
+    let mut text = Vec::from_slice(alloc, b"cores 1\ncode 0000006f\n")?;
     text.extend_from_slice(actions)?;
     text.extend_from_slice(b"end\n")?;
     Ok(text)
@@ -26,7 +27,6 @@ fn with_actions(rt: &HostRuntime, actions: &[u8]) -> Result<Vec<u8>, Fail> {
 #[test]
 fn each_line_is_read(rt: HostRuntime) -> Result<(), Fail> {
     let text = b"cores 1\ncode 0000006F\ncode deadBEEF\nrun 9\ncheckpoint\ncut 1\ntake 3 2\nend\n";
-    let job = read(&rt, text).ok().ok_or("the text is a job")?;
     let lines = [
         Line::Cores(1),
         Line::Code(0x6F),
@@ -37,103 +37,129 @@ fn each_line_is_read(rt: HostRuntime) -> Result<(), Fail> {
         Line::Take { channel: 3, n: 2 },
         Line::End,
     ];
-    assert_eq!(rt; job.lines.as_slice(), lines.as_slice());
+    assert_eq!(rt; lines_of(&rt, text)?.as_slice(), lines.as_slice());
     Ok(())
 }
 
 #[test]
-fn the_least_job_has_one_word_and_no_action(rt: HostRuntime) -> Result<(), Fail> {
-    let job = read(&rt, b"cores 01\ncode 00000000\nend\n")
-        .ok()
-        .ok_or("the text is a job")?;
-    let lines = [Line::Cores(1), Line::Code(0), Line::End];
-    assert_eq!(rt; job.lines.as_slice(), lines.as_slice());
+fn comments_spaces_and_the_ends_of_lines_are_free(rt: HostRuntime) -> Result<(), Fail> {
+    let lines = [
+        Line::Cores(1),
+        Line::Code(0x6F),
+        Line::Run(9),
+        Line::Take { channel: 0, n: 2 },
+        Line::End,
+    ];
+    for text in [
+        b"cores 1\ncode 0000006f\nrun 9\ntake 0 2\nend\n".as_slice(),
+        b"cores 1\ncode 0000006f\nrun 9\ntake 0 2\nend",
+        b"cores 1\r\ncode 0000006f\r\nrun 9\r\ntake 0 2\r\nend\r\n",
+        b"  cores   01  \ncode  0000006F\n run 00000000000000000009\ntake  0  2 \nend ",
+        b"# a job\n\ncores 1\n  # one two three four\ncode 0000006f\n#run 8\nrun 9\n \r\ntake 0 2\nend\n#\n \n\n",
+    ] {
+        assert_eq!(rt;
+            lines_of(&rt, text)?.as_slice(),
+            lines.as_slice(),
+            "{text:?}"
+        );
+    }
+    Ok(())
+}
+
+#[test]
+fn the_first_line_at_fault_has_its_first_cause(rt: HostRuntime) {
+    let faults = [
+        (b"".as_slice(), 1, JobCause::NoEnd),
+        (b"cores 1\ncode 0000006F\n", 3, JobCause::NoEnd),
+        (b"cores 1\ncode 0000006F\n\n#", 5, JobCause::NoEnd),
+        (b"cores 1\ncode 0000006f\nrunn 9\nend\n", 3, JobCause::Word),
+        (b"cores 1\ncode 0000006f\nend\r", 3, JobCause::Word),
+        (b"cores\t1\n", 1, JobCause::Word),
+        (b"cores 1\ncode\n", 2, JobCause::Word),
+        (
+            b"cores 1\ncode 0000006f\ntake 0 1 2\nend\n",
+            3,
+            JobCause::Word,
+        ),
+        (b"cores 1\ncode 0000006f\nend # now\n", 3, JobCause::Word),
+        (b"cores 2\n", 1, JobCause::Word),
+        (b"cores 1\ncores 8\n", 2, JobCause::Word),
+        (b"cores 0\n", 1, JobCause::Number),
+        (b"cores 9\n", 1, JobCause::Number),
+        (b"cores 1\ncores x\n", 2, JobCause::Number),
+        (b"code 12\n", 1, JobCause::Hex),
+        (b"cores 1\ncode 0000000g\n", 2, JobCause::Hex),
+        (b"cores 1\ncode 00000006f\n", 2, JobCause::Hex),
+        (b"cores 1\ncores 1\n", 2, JobCause::Order),
+        (b"cores 1\nrun 2000001\n", 2, JobCause::Order),
+        (
+            b"cores 1\ncode 0000006f\nrun 1\ncode 0000006f\n",
+            4,
+            JobCause::Order,
+        ),
+        (b"cores 1\ncode 0000006f\nend\n\nend\n", 5, JobCause::Order),
+        (
+            b"cores 1\ncode 0000006f\nrun 1000000\n\nrun 1000001\nrunn 9\n",
+            5,
+            JobCause::Draws,
+        ),
+        (
+            b"cores 1\ncode 0000006f\nrun 1\nrun 18446744073709551615\n",
+            4,
+            JobCause::Draws,
+        ),
+    ];
+    for (text, line, cause) in faults {
+        assert_eq!(rt; fault_of(&rt, text), Some((line, cause)), "{text:?}");
+    }
+}
+
+#[test]
+fn lines_of_other_forms_are_unknown_words(rt: HostRuntime) -> Result<(), Fail> {
+    for action in [
+        b"image p\n".as_slice(),
+        b"lcg 1\n",
+        b"checkpoint-cut 0 1\n",
+        b"mash 1 1\n",
+        b"show\n",
+        b"RUN 1\n",
+    ] {
+        let text = with_actions(rt.alloc(), action)?;
+        assert_eq!(rt;
+            fault_of(&rt, &text),
+            Some((3, JobCause::Word)),
+            "{action:?}"
+        );
+    }
     Ok(())
 }
 
 #[test]
 fn numbers_have_up_to_20_digits_and_are_below_two_to_64(rt: HostRuntime) -> Result<(), Fail> {
-    for cut in [
+    for action in [
         b"cut 18446744073709551615\n".as_slice(),
-        b"cut 00000000000000000000\n",
-        b"run 2000000\n",
         b"run 00000000000002000000\nrun 0\n",
         b"take 0 18446744073709551615\n",
     ] {
-        let text = with_actions(&rt, cut)?;
-        assert!(rt; read(&rt, &text).is_ok(), "{cut:?}");
+        let text = with_actions(rt.alloc(), action)?;
+        assert_eq!(rt; fault_of(&rt, &text), None, "{action:?}");
     }
-    for cut in [
+    for action in [
         b"cut 18446744073709551616\n".as_slice(),
-        b"cut 99999999999999999999\n",
         b"cut 000000000000000000000\n",
-        b"cut \n",
-        b"cut -1\n",
         b"cut +1\n",
-        b"cut 1a\n",
-        b"run 2000001\n",
-        b"run 18446744073709551615\nrun 1\n",
-        b"run 1000000\nrun 1000001\n",
+        b"run 0x1\n",
         b"take 4 1\n",
         b"take 0 18446744073709551616\n",
     ] {
-        let text = with_actions(&rt, cut)?;
-        assert!(rt; is_refused(&rt, &text), "{cut:?}");
+        let text = with_actions(rt.alloc(), action)?;
+        assert_eq!(rt;
+            fault_of(&rt, &text),
+            Some((3, JobCause::Number)),
+            "{action:?}"
+        );
     }
     Ok(())
-}
-
-#[test]
-fn words_are_eight_hexadecimal_digits(rt: HostRuntime) {
-    for text in [
-        b"cores 1\ncode 12\nend\n".as_slice(),
-        b"cores 1\ncode 00000000f\nend\n",
-        b"cores 1\ncode 0000000g\nend\n",
-        b"cores 1\ncode 0x00006f\nend\n",
-        b"cores 1\ncode\nend\n",
-    ] {
-        assert!(rt; is_refused(&rt, text), "{text:?}");
-    }
-}
-
-#[test]
-fn fields_stand_apart_by_one_space_and_lines_end_in_lf(rt: HostRuntime) {
-    for text in [
-        b"cores 1\ncode 0000006f\nend".as_slice(),
-        b"cores 1\r\ncode 0000006f\r\nend\r\n",
-        b"cores  1\ncode 0000006f\nend\n",
-        b" cores 1\ncode 0000006f\nend\n",
-        b"cores 1 \ncode 0000006f\nend\n",
-        b"cores 1\n\ncode 0000006f\nend\n",
-        b"# a job\ncores 1\ncode 0000006f\nend\n",
-        b"cores 1\ncode 0000006f\ntake  1\nend\n",
-    ] {
-        assert!(rt; is_refused(&rt, text), "{text:?}");
-    }
-}
-
-#[test]
-fn lines_stand_in_the_order_of_a_job(rt: HostRuntime) {
-    for text in [
-        b"".as_slice(),
-        b"\n",
-        b"end\n",
-        b"cores 1\nend\n",
-        b"cores 1\nrun 1\nend\n",
-        b"code 0000006f\nend\n",
-        b"cores 1\ncores 1\ncode 0000006f\nend\n",
-        b"cores 1\ncode 0000006f\nrun 1\ncode 0000006f\nend\n",
-        b"cores 1\ncode 0000006f\n",
-        b"cores 1\ncode 0000006f\nend\nend\n",
-        b"cores 1\ncode 0000006f\nend\n\n",
-        b"cores 1\ncode 0000006f\nrunn 9\nend\n",
-        b"cores 1\ncode 0000006f\nshow\nend\n",
-        b"cores 1\ncode 0000006f\nend now\n",
-        b"cores 2\ncode 0000006f\nend\n",
-        b"cores 0\ncode 0000006f\nend\n",
-    ] {
-        assert!(rt; is_refused(&rt, text), "{text:?}");
-    }
 }
 
 #[test]
@@ -146,47 +172,49 @@ fn a_program_has_at_most_1024_words(rt: HostRuntime) -> Result<(), Fail> {
     let mut longer = text.clone()?;
     text.extend_from_slice(b"end\n")?;
     longer.extend_from_slice(b"code 0000006f\nend\n")?;
-    let job = read(&rt, &text).ok().ok_or("the text is a job")?;
-    assert_eq!(rt; job.lines.len(), 1_026);
-    assert!(rt; is_refused(&rt, &longer));
+    assert_eq!(rt; lines_of(&rt, &text)?.len(), 1_026);
+    assert_eq!(rt; fault_of(&rt, &longer), Some((1_026, JobCause::Order)));
     Ok(())
 }
 
 #[test]
 fn a_text_has_at_most_4096_lines(rt: HostRuntime) -> Result<(), Fail> {
-    let mut actions = Vec::new(rt.alloc());
+    let mut lines = Vec::new(rt.alloc());
     for _ in 0..4_093 {
-        actions.extend_from_slice(b"cut 0\n")?;
+        lines.push(b'\n')?;
     }
-    let text = with_actions(&rt, &actions)?;
-    let job = read(&rt, &text).ok().ok_or("the text is a job")?;
-    assert_eq!(rt; job.lines.len(), 4_096);
-    actions.extend_from_slice(b"cut 0\n")?;
-    let text = with_actions(&rt, &actions)?;
-    assert!(rt; is_refused(&rt, &text));
+    let text = with_actions(rt.alloc(), &lines)?;
+    assert_eq!(rt; fault_of(&rt, &text), None);
+    let mut longer = text.clone()?;
+    longer.push(b' ')?;
+    assert_eq!(rt; fault_of(&rt, &longer), Some((4_097, JobCause::Lines)));
+    lines.push(b'\n')?;
+    let text = with_actions(rt.alloc(), &lines)?;
+    assert_eq!(rt; fault_of(&rt, &text), Some((4_097, JobCause::Lines)));
+    let mut endless = Vec::new(rt.alloc());
+    for _ in 0..4_096 {
+        endless.push(b'\n')?;
+    }
+    assert_eq!(rt; fault_of(&rt, &endless), Some((4_097, JobCause::NoEnd)));
     Ok(())
 }
 
 #[test]
 fn a_text_has_at_most_65536_bytes(rt: HostRuntime) -> Result<(), Fail> {
-    let mut actions = Vec::new(rt.alloc());
-    for _ in 0..2_619 {
-        actions.extend_from_slice(b"cut 00000000000000000000\n")?;
+    let mut text = Vec::new(rt.alloc());
+    text.extend_from_slice(b"cores 1\ncode 0000006f\nend\n#")?;
+    for _ in 0..65_509 {
+        text.push(b'#')?;
     }
-    actions.extend_from_slice(b"checkpoint\ncheckpoint\ncut 0\n")?;
-    let mut longer = actions.clone()?;
-    actions.extend_from_slice(b"cut 00\n")?;
-    longer.extend_from_slice(b"cut 000\n")?;
-    let text = with_actions(&rt, &actions)?;
     assert_eq!(rt; text.len(), 65_536);
-    assert!(rt; read(&rt, &text).is_ok());
-    let text = with_actions(&rt, &longer)?;
-    assert!(rt; is_refused(&rt, &text));
+    assert_eq!(rt; fault_of(&rt, &text), None);
+    text.push(b'#')?;
+    assert_eq!(rt; fault_of(&rt, &text), Some((0, JobCause::TooLong)));
     Ok(())
 }
 
 #[test]
-fn refusals_are_printed(rt: HostRuntime) -> Result<(), Fail> {
+fn faults_are_printed(rt: HostRuntime) -> Result<(), Fail> {
     let refused = JobError::Bad {
         line: 3,
         cause: JobCause::NoEnd,

@@ -6,12 +6,12 @@ use Rattle.std.proofs.lemmas.List.{take_all, length-take}
 use Rattle.std.specs.Io.KnownBytes.{IsAtEnd}
 use Rattle.pmem_model.specs.Memory as memory
 use Rattle.job_script.specs.declared.line.Line.{Line}
-use Rattle.job_script.specs.declared.fault.JobCause.TheVariants.{Word}
+use Rattle.job_script.specs.declared.fault.JobCause.TheVariants.{TooLong}
 use Rattle.job_script.specs.Grammar.{Good, Faulty, verdict}
 use Rattle.sls_run.specs.declared.status.Status.{Status}
 use Rattle.sls_run.specs.Job.{LeavesText, LeavesRun}
 
-long_verdict : (text : List ℕ) → 65536 < length text → verdict text ≡ Faulty 0 Word
+long_verdict : (text : List ℕ) → 65536 < length text → verdict text ≡ Faulty 0 TooLong
 unfolding verdict
 long_verdict text h = let test : nat_lt 65536 (length text) ≡ true = grind (arith, nat_tests) in rw test refl
 

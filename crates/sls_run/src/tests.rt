@@ -182,7 +182,7 @@ fn a_bad_job_is_told(rt: HostRuntime) -> Result<(), Fail> {
             rt.alloc(),
             "run 9\nrunn 9\nend\n",
             Status::BadJob,
-            "bad job 0 Word\n",
+            "bad job 12 Word\n",
         )?
     );
     Ok(())

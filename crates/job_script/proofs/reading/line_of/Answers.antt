@@ -3,8 +3,8 @@ use Rattle.std.proofs.lemmas.Slice.Eq.{text_from_reads}
 use Rattle.job_script.specs.Lines.{line_of}
 use Rattle.job_script.proofs.reading.line_of.Goals as goal
 
-pub returns-in-One-checkpoint : goal.returns-in-One-checkpoint
+pub returns-in-checkpoint : goal.returns-in-checkpoint
 unfolding line_of
-returns-in-One-checkpoint c =
-    let word : c.in-One-checkpoint.field-0.now ≡ codes "checkpoint" = text_from_reads _ _ (omega arith) (search rules) in
-    rw (c.in-One-checkpoint.ensures, word)
+returns-in-checkpoint c =
+    let word : c.args.word.now ≡ codes "checkpoint" = text_from_reads _ _ (omega arith) (search rules) in
+    rw (c.in-None.ensures, word)

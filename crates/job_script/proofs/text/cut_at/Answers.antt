@@ -1,7 +1,7 @@
 use Rattle.std.proofs.Common.{sym, arith}
 use Rattle.std.proofs.lemmas.Grind.{common_steps}
 use Rattle.job_script.proofs.Parts.{cut_none, cut_some}
-use Rattle.job_script.proofs.fields.cut_at.Goals as goal
+use Rattle.job_script.proofs.text.cut_at.Goals as goal
 
 pub returns-in_err-at-clause-parts : goal.returns-in_err-at-clause-parts
 returns-in_err-at-clause-parts c =
