@@ -1,0 +1,17 @@
+pub mod Objects
+pub mod States
+pub mod Memory
+pub mod Worlds
+pub mod Effects
+pub mod Refusals
+pub mod Calls
+pub mod CallRefusals
+pub mod CallEffects
+pub mod Instructions
+pub mod Ticks
+pub mod Sweep
+pub mod Play
+pub mod MayStep
+pub mod Cost
+pub mod Initial
+pub mod Laws

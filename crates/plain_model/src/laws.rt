@@ -1,0 +1,73 @@
+//! Laws of the plain machine, which show that its definitions are the right ones. Each function does nothing: its contract is
+//! the law.
+
+ghost use Rattle.std.specs.Prelude.{◌≡◌, ℕ, ◌<◌, List, [], length, Some, None};
+ghost use Rattle.sls_base.specs.declared.image.Image.{Image};
+ghost use Rattle.sls_base.specs.declared.thread.Thread.{Thread};
+ghost use Rattle.plain_model.specs.declared.calls.Call.{Call};
+ghost use Rattle.plain_model.specs.declared.calls.Refusal.{Refusal};
+ghost use Rattle.plain_model.specs.declared.label.Label.{Label};
+ghost use Rattle.plain_model.specs.States.{State};
+ghost use Rattle.plain_model.specs.Worlds.{World, free_objects};
+ghost use Rattle.plain_model.specs.Effects.{answers};
+ghost use Rattle.plain_model.specs.Calls.{call_named};
+ghost use Rattle.plain_model.specs.CallRefusals.{refusal_of};
+ghost use Rattle.plain_model.specs.CallEffects.{new_id, ecall};
+ghost use Rattle.plain_model.specs.Refusals.{refusal_number};
+ghost use Rattle.plain_model.specs.Ticks.{Chosen, chosen, tick};
+ghost use Rattle.plain_model.specs.Sweep.{swept};
+ghost use Rattle.plain_model.specs.Play.{after, commit, cut, play, state_after_cut};
+ghost use Rattle.plain_model.specs.Initial.{first_world};
+ghost use Rattle.plain_model.specs.Laws.{IsLeast, IsToldBySweep, IsFirstPart, IsInOrder, IsLeastFree, AreFreePages, ChangesOnly};
+
+/// What is reached is the least set that has the objects which are always there and is closed under the edges.
+pub fn reached_is_least()
+    ensures { (s : State) → IsLeast s }
+{}
+
+/// Sweeping twice is sweeping once.
+pub fn sweep_is_idempotent()
+    ensures { (s : State) → swept (swept s) ≡ swept s }
+{}
+
+/// The objects that the sweep makes others, or takes away, are told exactly.
+pub fn sweep_is_told()
+    ensures { (s : State) (i : ℕ) → IsToldBySweep s i }
+{}
+
+/// What the device accepted is a first part of what the saved copy has put, and that of what the running state has put: so it
+/// is in the first world, and each label keeps it so.
+pub fn output_is_in_order()
+    ensures first { (image : Image) (cores : ℕ) → IsInOrder (first_world image cores) }
+    ensures kept { (w : World) (label : Label) → IsInOrder w → IsInOrder (after w label) }
+{}
+
+/// What the device accepted never shrinks.
+pub fn released_grows()
+    ensures { (w : World) (labels : List Label) (channel : ℕ) → IsFirstPart (w.released channel) ((play w labels).released channel) }
+{}
+
+/// A cut after a commit changes nothing but the inputs that wait.
+pub fn cut_after_commit()
+    ensures { (w : World) → cut (commit w) ≡ record (commit w) { now = record (commit w).now { inputs = [] } } }
+{}
+
+/// A new object takes the least number that neither state has, and new pages take the least that are in no object of either.
+pub fn new_numbers_are_free()
+    ensures object { (w : World) → 0 < length (free_objects w) → IsLeastFree w (new_id w) }
+    ensures pages { (w : World) → AreFreePages w }
+{}
+
+/// A refused call changes x10 and pc alone.
+pub fn refused_call_answers_alone()
+    ensures { (w : World) (id : ℕ) (thread : Thread) (call : Call) (refusal : Refusal)
+        → call_named thread ≡ Some call → refusal_of w id thread call ≡ Some refusal
+        → ecall w id thread ≡ answers thread (refusal_number refusal) }
+{}
+
+/// A core that has no thread to run changes nothing. Else a tick changes only the thread, what its effect writes, the scheduler's
+/// queue and the core.
+pub fn tick_changes_what_it_names()
+    ensures idle { (w : World) (core : ℕ) → chosen w.now core ≡ None → tick w core ≡ w }
+    ensures only { (w : World) (core : ℕ) (c : Chosen) → chosen w.now core ≡ Some c → ChangesOnly w core c }
+{}
