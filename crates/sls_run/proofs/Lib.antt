@@ -3,3 +3,4 @@ pub mod Writing
 pub mod Codes
 pub mod Jobs
 pub mod Texts
+pub mod Told

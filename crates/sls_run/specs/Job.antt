@@ -111,3 +111,19 @@ LeavesText text old new came ended nvm =
     EndsAt status.Memory line.Memory old new came nvm ended
     ⊎ (((at : ℕ) × (cause : JobCause) × (verdict text ≡ Faulty at cause) × EndsAt status.BadJob (line.BadJob at cause) old new came nvm ended)
     ⊎ ((lines : List Line) × (verdict text ≡ Good lines) × IsRun lines old new came ended nvm))
+
+-- The text is at fault, and what was written tells the line and the cause of its first fault.
+pub record TellsFault (text : List ℕ) (old new : Option (List ℕ)) : Type 0 where
+  pub at : ℕ
+  pub cause : JobCause
+  pub fault : verdict text ≡ Faulty at cause
+  pub told : new ≡ append_known old (line_text (line.BadJob at cause))
+
+-- A text with this first fault is answered by its line, but where the job couldn't be read, or the line not be written.
+abbrev pub AnswersFault : ℕ → JobCause → Option (List ℕ) → Option (List ℕ) → Status → Type 0
+AnswersFault at cause old new status.BadJob = new ≡ append_known old (line_text (line.BadJob at cause))
+AnswersFault at cause old new status.ReadFault = Unit {0}
+AnswersFault at cause old new status.WriteFault = Unit {0}
+AnswersFault at cause old new status.Memory = Unit {0}
+AnswersFault at cause old new status.Done = ⊥
+AnswersFault at cause old new status.Usage = ⊥

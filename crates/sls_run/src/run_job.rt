@@ -1,6 +1,6 @@
 //! The top call: a job is read, run and reported.
 
-ghost use Rattle.std.specs.Prelude.{◌≡◌, ◌≢◌, ◌≤◌, ◌↔◌, ℕ, IsTrue, is_some};
+ghost use Rattle.std.specs.Prelude.{◌≡◌, ◌≢◌, ◌≤◌, ◌↔◌, ℕ, IsTrue, IfSome, is_some};
 ghost use Rattle.pmem_model.specs.Memory.{word_at, AllHome};
 ghost use Rattle.pmem_model.specs.Places.{zero_word};
 ghost use Rattle.sls_io.specs.Faults.{Rose};
@@ -9,8 +9,10 @@ ghost use Rattle.sls_kernel.specs.Program.{IsOfCode};
 ghost use Rattle.sls_kernel.specs.Side.{Running, mode};
 ghost use Rattle.sls_kernel.specs.Shows.{Shows};
 ghost use Rattle.job_script.specs.Job.{IsJob, words_of};
+ghost use Rattle.job_script.specs.Grammar.{Faulty, verdict};
+ghost use Rattle.job_script.specs.declared.fault.JobCause.{JobCause};
 ghost use Rattle.sls_run.specs.Report.{first_of};
-ghost use Rattle.sls_run.specs.Job.{IsRun, LastLine, IsRunWords, EndsAt, LeavesRun, LeavesText};
+ghost use Rattle.sls_run.specs.Job.{IsRun, LastLine, IsRunWords, EndsAt, LeavesRun, LeavesText, TellsFault, AnswersFault};
 ghost use Rattle.sls_run.specs.declared.report.Printed.TheVariants as line;
 
 use crate::code::image_of_lines;
@@ -136,6 +138,9 @@ pub fn run_job<S: Source, O: Sink, F: Shelf>(
     ensures usage { (IsRunWords words.now → ⊥) → EndsAt Status.Usage line.Usage (O.written out.old) (O.written out.new) nvm result.1 result.0 }
     ensures run { IsRunWords words.now → LeavesRun (S.left job.old) (S.left job.new) (S.faults job.old) (S.faults job.new)
         (O.written out.old) (O.written out.new) nvm result.0 result.1 }
+    ensures bad_job { result.0 ≡ Status.BadJob → IfSome (S.left job.old) (λ text. TellsFault text (O.written out.old) (O.written out.new)) }
+    ensures fault { IsRunWords words.now → IfSome (S.left job.old) (λ text. (at : ℕ) (cause : JobCause) → verdict text ≡ Faulty at cause
+        → AnswersFault at cause (O.written out.old) (O.written out.new) result.0) }
     ensures write_fault { result.0 ≡ Status.WriteFault → Rose (O.faults out.old) (O.faults out.new) }
     ensures told { is_some (O.written out.new) ≡ is_some (O.written out.old) }
     ensures reads { S.faults job.old ≤ S.faults job.new }

@@ -20,8 +20,14 @@ pub enum Status {
 }
 
 impl Status {
-    /// The exit status of the program.
-    pub fn exit_code(self) -> ExitCode {
+    ghost use Rattle.std.specs.Prelude.{◌≡◌};
+    ghost use Rattle.std.specs.Process.{exit_status};
+    ghost use Rattle.sls_run.specs.Status.{exit_number};
+
+    /// The exit code of the program.
+    pub fn exit_code(self) -> ExitCode
+        ensures { exit_status result ≡ exit_number self }
+    {
         ExitCode::from(match self {
             Status::Done => 0,
             Status::Usage => 2,
