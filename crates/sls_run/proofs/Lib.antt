@@ -4,3 +4,4 @@ pub mod Codes
 pub mod Jobs
 pub mod Texts
 pub mod Told
+pub mod Chosen

@@ -2,3 +2,4 @@ pub mod Report
 pub mod Ends
 pub mod Job
 pub mod Status
+pub mod WriteBacks

@@ -7,6 +7,7 @@ ghost use Rattle.sls_kernel.specs.Shows.{Shows, Stands, durable_words};
 ghost use Rattle.sls_kernel.specs.Program.{IsOfCode};
 ghost use Rattle.sls_run.specs.Report.{ticks, checkpoint_line, checkpointed};
 ghost use Rattle.sls_run.specs.Ends.{Keeps, Commits};
+ghost use Rattle.sls_run.specs.WriteBacks.{chooses, WritesBack};
 
 use crate::report::Printed;
 use pmem_model::Pmem;
@@ -17,7 +18,7 @@ use std::alloc::Global;
 /// The one core.
 const CORE: CoreNo = 0;
 
-/// The bit of a draw that decides whether a word is written back.
+/// The bit of a draw that has its word written back.
 const CHOICE_BIT: u32 = 33;
 
 /// Turns until a machine that formats or recovers is up.
@@ -69,16 +70,24 @@ pub fn checkpoint(alloc: Global, machine: &mut Machine) -> Printed
     }
 }
 
+/// Whether a draw has its word written back.
+fn chooses(draw: u64) -> bool
+    ensures { result ≡ chooses draw }
+{
+    (draw >> CHOICE_BIT) % 2 == 1
+}
+
 /// Writes dirty words back, in rising order, each where the generator draws so.
 pub fn write_backs(machine: &mut Machine, seed: u64)
     requires { mode machine.old ≡ Running }
     ensures up { mode machine.new ≡ Running }
     ensures shows { Keeps machine.old machine.new }
+    ensures words { WritesBack seed machine.old machine.new }
 {
     let mut draws = Lcg { state: seed };
     let mut from = 0;
     while let Some(word) = machine.dirty_from(from) {
-        if draws.next() >> CHOICE_BIT & 1 == 1 {
+        if chooses(draws.next()) {
             machine.write_back(word);
         }
         from = word + 1;
