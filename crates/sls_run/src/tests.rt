@@ -26,6 +26,13 @@ fn run_words(alloc: Global) -> Result<Vec<String>, Fail> {
     Ok(words)
 }
 
+/// The text of a job of the counting program.
+fn whole_text(alloc: Global, lines: &str) -> Result<Vec<u8>, Fail> {
+    let mut text = Vec::from_slice(alloc, PROGRAM.as_bytes())?;
+    text.extend_from_slice(lines.as_bytes())?;
+    Ok(text)
+}
+
 /// Runs a job of the counting program, with a sink and a source that fail the calls named.
 fn run_with(
     alloc: Global,
@@ -33,12 +40,10 @@ fn run_with(
     failing_reads: &[u64],
     failing_writes: &[u64],
 ) -> Result<Ended, Fail> {
-    let mut text = Vec::from_slice(alloc, PROGRAM.as_bytes())?;
-    text.extend_from_slice(lines.as_bytes())?;
     run_text(
         alloc,
         &run_words(alloc)?,
-        text,
+        whole_text(alloc, lines)?,
         failing_reads,
         failing_writes,
     )
@@ -63,57 +68,58 @@ fn run_text(
     })
 }
 
-/// Whether a run of the counting program ends as told.
-fn ends(alloc: Global, lines: &str, status: Status, report: &str) -> Result<bool, Fail> {
-    let ended = run_with(alloc, lines, &[], &[])?;
-    Ok(ended.status == status && ended.report.as_slice() == report.as_bytes())
+/// A whole text of a job, run with ample memory and no failing call.
+fn run_whole(alloc: Global, text: &[u8]) -> Result<Ended, Fail> {
+    run_text(
+        alloc,
+        &run_words(alloc)?,
+        Vec::from_slice(alloc, text)?,
+        &[],
+        &[],
+    )
 }
 
 #[test]
-fn a_loop_alone_is_done(rt: HostRuntime) -> Result<(), Fail> {
-    let text = Vec::from_slice(rt.alloc(), b"cores 1\ncode 0000006F\nrun 100\nend\n")?;
-    let ended = run_text(rt.alloc(), &run_words(rt.alloc())?, text, &[], &[])?;
-    assert!(rt; ended.status == Status::Done);
-    assert!(rt; ended.report.as_slice() == b"done\n".as_slice());
-    Ok(())
-}
-
-#[test]
-fn what_is_put_behind_the_checkpoint_is_lost_in_a_cut(rt: HostRuntime) -> Result<(), Fail> {
-    assert!(rt;
-        ends(
-            rt.alloc(),
+fn jobs_report_as_worked_out_by_hand(rt: HostRuntime) -> Result<(), Fail> {
+    for (lines, report) in [
+        ("run 100\nend\n", "done\n"),
+        (
             "run 9\ncheckpoint\nrun 9\ncut 0\ntake 0 9\nend\n",
-            Status::Done,
             "commit 1\nup 1\nout 0 0 01000000\ndry 0\ndone\n",
-        )?
-    );
-    Ok(())
-}
-
-#[test]
-fn what_was_lost_is_put_again_and_comes_once(rt: HostRuntime) -> Result<(), Fail> {
-    assert!(rt;
-        ends(
-            rt.alloc(),
+        ),
+        (
             "run 9\ncheckpoint\nrun 9\ncut 0\ntake 0 9\nrun 9\ncheckpoint\ntake 0 9\nend\n",
-            Status::Done,
             "commit 1\nup 1\nout 0 0 01000000\ndry 0\ncommit 2\nout 0 1 02000000\ndry 0\ndone\n",
-        )?
-    );
+        ),
+        ("run 9\ncut 0\ntake 0 1\nend\n", "up 0\ndry 0\ndone\n"),
+    ] {
+        let ended = run_with(rt.alloc(), lines, &[], &[])?;
+        assert!(rt; ended.status == Status::Done, "{lines}");
+        assert_eq!(rt; ended.report.as_slice(), report.as_bytes(), "{lines}");
+    }
     Ok(())
 }
 
 #[test]
-fn nothing_leaves_without_a_checkpoint(rt: HostRuntime) -> Result<(), Fail> {
-    assert!(rt;
-        ends(
-            rt.alloc(),
-            "run 9\ncut 0\ntake 0 1\nend\n",
-            Status::Done,
-            "up 0\ndry 0\ndone\n",
-        )?
-    );
+fn jobs_in_free_form_are_run(rt: HostRuntime) -> Result<(), Fail> {
+    for (text, report) in [
+        (
+            b"cores 1\ncode 0000006F\nrun 100\nend\n".as_slice(),
+            b"done\n".as_slice(),
+        ),
+        (
+            b"# a loop\r\n\r\n  cores   01\r\ncode 0000006f  \r\n #run 1\r\n run  007 \r\ncheckpoint\r\n\r\n  cut 3\r\nend",
+            b"commit 1\nup 1\ndone\n",
+        ),
+        (
+            b"\n \n#\ncores 1\n# three words\ncode 00000013\ncode 00000013\n\ncode 0000006F\nrun 5\n  take   3   2\n# no more\nend  \n\n# behind the end\n",
+            b"dry 3\ndone\n",
+        ),
+    ] {
+        let ended = run_whole(rt.alloc(), text)?;
+        assert!(rt; ended.status == Status::Done, "{text:?}");
+        assert_eq!(rt; ended.report.as_slice(), report, "{text:?}");
+    }
     Ok(())
 }
 
@@ -146,78 +152,86 @@ fn a_full_ring_goes_on_behind_a_cut(rt: HostRuntime) -> Result<(), Fail> {
 }
 
 #[test]
-fn a_write_that_fails_ends_the_run_with_a_prefix(rt: HostRuntime) -> Result<(), Fail> {
+fn failing_reads_and_writes_end_a_run(rt: HostRuntime) -> Result<(), Fail> {
     let lines = "run 9\ncheckpoint\nrun 9\ncut 0\ntake 0 9\nend\n";
-    let ended = run_with(rt.alloc(), lines, &[], &[2])?;
-    assert!(rt; ended.status == Status::WriteFault);
-    assert!(rt; ended.report.as_slice() == b"commit 1\nup".as_slice());
+    let written = run_with(rt.alloc(), lines, &[], &[2])?;
+    assert!(rt; written.status == Status::WriteFault);
+    assert_eq!(rt; written.report.as_slice(), b"commit 1\nup".as_slice());
+    let read = run_with(rt.alloc(), lines, &[1], &[])?;
+    assert!(rt; read.status == Status::ReadFault);
+    assert_eq!(rt; read.report.as_slice(), b"read fault\n".as_slice());
     Ok(())
 }
 
-#[test]
-fn a_read_that_fails_runs_nothing(rt: HostRuntime) -> Result<(), Fail> {
-    let ended = run_with(rt.alloc(), "run 9\nend\n", &[1], &[])?;
-    assert!(rt; ended.status == Status::ReadFault);
-    assert!(rt; ended.report.as_slice() == b"read fault\n".as_slice());
-    Ok(())
+/// Whether a run with these words is refused.
+fn is_refused(alloc: Global, words: &[String]) -> Result<bool, Fail> {
+    let ended = run_text(alloc, words, Vec::new(alloc), &[], &[])?;
+    Ok(ended.status == Status::Usage && ended.report.as_slice() == b"usage\n".as_slice())
 }
 
 #[test]
 fn other_words_are_no_run(rt: HostRuntime) -> Result<(), Fail> {
-    let none = run_text(rt.alloc(), &[], Vec::new(rt.alloc()), &[], &[])?;
-    assert!(rt; none.status == Status::Usage);
-    assert!(rt; none.report.as_slice() == b"usage\n".as_slice());
     let mut words = run_words(rt.alloc())?;
     words.push(String::from_str(rt.alloc(), "x")?)?;
-    let more = run_text(rt.alloc(), &words, Vec::new(rt.alloc()), &[], &[])?;
-    assert!(rt; more.status == Status::Usage);
-    assert!(rt; more.report.as_slice() == b"usage\n".as_slice());
+    assert!(rt; is_refused(rt.alloc(), &[])?);
+    assert!(rt; is_refused(rt.alloc(), words.as_slice())?);
     Ok(())
 }
 
 #[test]
-fn a_bad_job_is_told(rt: HostRuntime) -> Result<(), Fail> {
-    assert!(rt;
-        ends(
-            rt.alloc(),
-            "run 9\nrunn 9\nend\n",
-            Status::BadJob,
-            "bad job 12 Word\n",
-        )?
-    );
+fn a_bad_job_is_told_with_its_line_and_cause(rt: HostRuntime) -> Result<(), Fail> {
+    for (text, report) in [
+        (b"".as_slice(), b"bad job 1 NoEnd\n".as_slice()),
+        (b"cores 1\ncode 0000006F\n", b"bad job 3 NoEnd\n"),
+        (
+            b"cores 1\ncode 0000006F\nrunn 9\nend\n",
+            b"bad job 3 Word\n",
+        ),
+        (b"# eight\n\ncores 8\n", b"bad job 3 Word\n"),
+        (b"cores 9\n", b"bad job 1 Number\n"),
+        (b"cores 1\ncode 12\n", b"bad job 2 Hex\n"),
+        (b"cores 1\ncores 1\n", b"bad job 2 Order\n"),
+        (
+            b"cores 1\ncode 0000006F\nrun 2000001\nend\n",
+            b"bad job 3 Draws\n",
+        ),
+    ] {
+        let ended = run_whole(rt.alloc(), text)?;
+        assert!(rt; ended.status == Status::BadJob, "{text:?}");
+        assert_eq!(rt; ended.report.as_slice(), report, "{text:?}");
+    }
     Ok(())
 }
 
-/// Whether the slow program of the plain machine gives the report of a run.
-fn is_plain(alloc: Global, lines: &str) -> Result<bool, Fail> {
-    let ended = run_with(alloc, lines, &[], &[])?;
-    let mut text = Vec::from_slice(alloc, PROGRAM.as_bytes())?;
-    text.extend_from_slice(lines.as_bytes())?;
-    let job = read_job(alloc, text.as_slice())?;
-    let plain = plain::report(alloc, job.lines.as_slice())?;
-    Ok(ended.report.as_slice() == plain.as_slice())
+#[test]
+fn a_job_that_is_too_long_is_told(rt: HostRuntime) -> Result<(), Fail> {
+    for (count, report) in [
+        (5_000, b"bad job 4097 Lines\n".as_slice()),
+        (70_000, b"bad job 0 TooLong\n"),
+    ] {
+        let mut text = Vec::new(rt.alloc());
+        for _ in 0..count {
+            text.push(b'\n')?;
+        }
+        let ended = run_whole(rt.alloc(), text.as_slice())?;
+        assert!(rt; ended.status == Status::BadJob);
+        assert_eq!(rt; ended.report.as_slice(), report);
+    }
+    Ok(())
 }
 
 #[test]
 fn the_plain_program_gives_the_same_reports(rt: HostRuntime) -> Result<(), Fail> {
-    assert!(rt;
-        is_plain(
-            rt.alloc(),
-            "run 9\ncheckpoint\nrun 9\ncut 0\ntake 0 9\nend\n"
-        )?
-    );
-    assert!(rt;
-        is_plain(
-            rt.alloc(),
-            "run 9\ncheckpoint\nrun 9\ncut 0\ntake 0 9\nrun 9\ncheckpoint\ntake 0 9\nend\n",
-        )?
-    );
-    assert!(rt; is_plain(rt.alloc(), "run 9\ncut 0\ntake 0 1\nend\n")?);
-    assert!(rt;
-        is_plain(
-            rt.alloc(),
-            "run 600\ncheckpoint\ntake 0 10\nrun 90\ncut 3\nrun 200\ncheckpoint\ntake 0 99\nend\n",
-        )?
-    );
+    for lines in [
+        "run 9\ncheckpoint\nrun 9\ncut 0\ntake 0 9\nend\n",
+        "run 9\ncheckpoint\nrun 9\ncut 0\ntake 0 9\nrun 9\ncheckpoint\ntake 0 9\nend\n",
+        "run 9\ncut 0\ntake 0 1\nend\n",
+        "run 600\ncheckpoint\ntake 0 10\nrun 90\ncut 3\nrun 200\ncheckpoint\ntake 0 99\nend\n",
+    ] {
+        let ended = run_with(rt.alloc(), lines, &[], &[])?;
+        let job = read_job(rt.alloc(), whole_text(rt.alloc(), lines)?.as_slice())?;
+        let plain = plain::report(rt.alloc(), job.lines.as_slice())?;
+        assert_eq!(rt; ended.report.as_slice(), plain.as_slice(), "{lines}");
+    }
     Ok(())
 }
