@@ -4,7 +4,7 @@ ghost use Rattle.sls_kernel.specs.Program.{IsOfCode};
 
 use crate::{Asked, Did, Machine, Off, memory};
 use pmem_model::Pmem;
-use sls_base::{FRAME_WORDS, Image, PAGE_BYTES, Program, RegionSpec};
+use sls_base::{FRAME_WORDS, Image, PAGE_BYTES, Program, RegionSpec, TABLE_WORDS};
 use std::alloc::Global;
 use std::process::Abort;
 use std::test::Fail;
@@ -37,6 +37,11 @@ const RECOVERY: u32 = 5;
 const FIRST_AREA: usize = 16;
 /// The frames of an area.
 const PARTS: usize = 6;
+
+/// The place of the word that says what the thread does, in the record of the second area.
+const STATUS_PLACE: usize = TABLE_WORDS + 29 * FRAME_WORDS + 16;
+/// What that word says in its low byte of a thread that has stopped; the byte above has the cause.
+const STOPPED: u64 = 6;
 
 /// Two words that halt: addi x17, x0, 1 and ecall.
 const HALTS: [u32; 2] = [0x0010_0893, 0x0000_0073];
@@ -261,13 +266,24 @@ fn a_write_back_of_the_version_word_commits(rt: HostRuntime) -> Result<(), Fail>
     Ok(())
 }
 
+/// The word of the record of a stopped thread, as the first checkpoint saves it: that the thread stopped, and the cause.
+fn saved_status(rt: &impl Abort, alloc: Global, machine: &mut Machine) -> u64 {
+    assert_eq!(rt; ask(rt, alloc, machine), Asked::Started);
+    assert_eq!(rt; turns(machine, CHECKPOINT), Did::Committed(1));
+    let memory = machine.nvm();
+    memory.durable(STATUS_PLACE)
+}
+
 #[test]
-fn a_program_stops_at_a_word_that_is_none_and_past_its_page(rt: HostRuntime) -> Result<(), Fail> {
-    for (first, second, third, stopped_after) in [
-        (0x0000_0000, 0, 0, 1),
-        (0x7FF0_0313, 0x7FD3_0313, 0x0003_2283, 5), // addi x6, x0, 2047; addi x6, x6, 2045; lw x5, 0(x6)
-        (0x7FF0_0313, 0x7FD3_0313, 0x0043_2283, 3), // and with lw x5, 4(x6), which is past the page
-        (0x0000_106F, 0, 0, 2), // jal x0, 4096
+fn a_thread_stops_with_its_cause(rt: HostRuntime) -> Result<(), Fail> {
+    for (first, second, third, stopped_after, cause) in [
+        (0x0000_0000, 0, 0, 1, 1), // no instruction
+        (0x0000_0163, 0, 0, 1, 2), // beq x0, x0, 2
+        (0x0020_2283, 0, 0, 1, 3), // lw x5, 2(x0)
+        (0x7FF0_0313, 0x7FD3_0313, 0x0003_2283, 5, 0), // addi x6, x0, 2047; addi x6, x6, 2045; lw x5, 0(x6); then halt
+        (0x7FF0_0313, 0x7FD3_0313, 0x0043_2283, 3, 4), // and with lw x5, 4(x6), which is past the page
+        (0x0000_106F, 0, 0, 2, 4), // jal x0, 4096
+        (0x0010_0073, 0, 0, 1, 5), // ebreak
     ] {
         let image = image_of(&rt, rt.alloc(), &[first, second, third, HALTS[0], HALTS[1]])?;
         let mut machine = boot(rt.alloc(), &image)?;
@@ -277,6 +293,8 @@ fn a_program_stops_at_a_word_that_is_none_and_past_its_page(rt: HostRuntime) -> 
             stopped_after,
             "{first:08x} {third:08x}"
         );
+        let status = saved_status(&rt, rt.alloc(), &mut machine);
+        assert_eq!(rt; status, STOPPED | cause << 8, "{first:08x} {third:08x}");
     }
     Ok(())
 }
