@@ -31,12 +31,12 @@ says_same : (left : Option (List ℕ)) (text : List ℕ) → IfSome left (λ all
 says_same None text h = tt
 says_same (Some all) text h = same_verdict all ∙ ap verdict (sym h)
 
-pub leaves : (left left_after : Option (List ℕ)) (text : List ℕ) (faults faults_after : ℕ) (old new : Option (List ℕ)) (came : memory.Memory) (ended : Status) (nvm : memory.Memory)
-    → IfSome left (λ all. text ≡ take 65537 all) → (length text ≤ 65536 → IsAtEnd left_after) → LeavesText text old new came ended nvm → LeavesRun left left_after faults faults_after old new came ended nvm
-leaves left left_after text faults faults_after old new came ended nvm first end did = elim did [
+pub leaves : (left left_after : Option (List ℕ)) (source_ended : Type 0) (text : List ℕ) (faults faults_after : ℕ) (old new : Option (List ℕ)) (came : memory.Memory) (ended : Status) (nvm : memory.Memory)
+    → IfSome left (λ all. text ≡ take 65537 all) → (length text ≤ 65536 → IsAtEnd left_after × source_ended) → LeavesText text old new came ended nvm → LeavesRun left left_after source_ended faults faults_after old new came ended nvm
+leaves left left_after source_ended text faults faults_after old new came ended nvm first end did = elim did [
   | inl none ↦ inr (inl none)
   | inr more ↦ elim more [
     | inl bad ↦ inr (inr (inl (record { at = bad.0; cause = bad.1; read = record { text = text; is_text = says_same left text first; says = bad.2 }; ends = bad.3 })))
-    | inr ran ↦ inr (inr (inr (record { lines = ran.0; read = record { text = text; is_text = says_same left text first; says = ran.1 }; at_end = end (good_short text ran.0 ran.1); run = ran.2 })))
+    | inr ran ↦ inr (inr (inr (record { lines = ran.0; read = record { text = text; is_text = says_same left text first; says = ran.1 }; at_end = (end (good_short text ran.0 ran.1)).0; met_end = (end (good_short text ran.0 ran.1)).1; run = ran.2 })))
   ]
 ]

@@ -9,10 +9,10 @@ use Rattle.sls_run.specs.declared.report.Printed.{Printed}
 use Rattle.sls_run.specs.declared.report.Printed.TheVariants as line
 use Rattle.sls_run.specs.Job.{LastLine, LeavesRun, TellsFault, AnswersFault}
 
-told : (left left_after : Option (List ℕ)) (faults faults_after : ℕ) (old new : Option (List ℕ)) (came nvm : memory.Memory)
-    → LeavesRun left left_after faults faults_after old new came status.BadJob nvm → IfSome left (λ text. TellsFault text old new)
-told None left_after faults faults_after old new came nvm did = tt
-told (Some all) left_after faults faults_after old new came nvm did = elim did [
+told : (left left_after : Option (List ℕ)) (source_ended : Type 0) (faults faults_after : ℕ) (old new : Option (List ℕ)) (came nvm : memory.Memory)
+    → LeavesRun left left_after source_ended faults faults_after old new came status.BadJob nvm → IfSome left (λ text. TellsFault text old new)
+told None left_after source_ended faults faults_after old new came nvm did = tt
+told (Some all) left_after source_ended faults faults_after old new came nvm did = elim did [
   | inl failed ↦ (let other = failed.ends.last_line.0 in cc)
   | inr more ↦ elim more [
     | inl none ↦ (let other = none.last_line.0 in cc)
@@ -24,11 +24,11 @@ told (Some all) left_after faults faults_after old new came nvm did = elim did [
 ]
 
 -- a run that is answered so tells the fault
-pub tells : (left left_after : Option (List ℕ)) (faults faults_after : ℕ) (old new : Option (List ℕ)) (came : memory.Memory) (ended : Status) (nvm : memory.Memory)
-    → LeavesRun left left_after faults faults_after old new came ended nvm → ended ≡ status.BadJob → IfSome left (λ text. TellsFault text old new)
-tells left left_after faults faults_after old new came ended nvm did is =
-    let P : Status → Type 0 = λ s. LeavesRun left left_after faults faults_after old new came s nvm in
-    told left left_after faults faults_after old new came nvm (subst P is did)
+pub tells : (left left_after : Option (List ℕ)) (source_ended : Type 0) (faults faults_after : ℕ) (old new : Option (List ℕ)) (came : memory.Memory) (ended : Status) (nvm : memory.Memory)
+    → LeavesRun left left_after source_ended faults faults_after old new came ended nvm → ended ≡ status.BadJob → IfSome left (λ text. TellsFault text old new)
+tells left left_after source_ended faults faults_after old new came ended nvm did is =
+    let P : Status → Type 0 = λ s. LeavesRun left left_after source_ended faults faults_after old new came s nvm in
+    told left left_after source_ended faults faults_after old new came nvm (subst P is did)
 
 -- a last line that tells why nothing was read
 others : (wanted : Status) (last : Printed) (at : ℕ) (cause : JobCause) (old new : Option (List ℕ)) (ended : Status) → (wanted ≡ status.Done → ⊥) → (wanted ≡ status.Usage → ⊥) → (wanted ≡ status.BadJob → ⊥)
@@ -50,10 +50,10 @@ own at cause old new status.WriteFault is = tt
 own at cause old new status.Memory is = tt
 
 -- a job at fault is answered by its fault, where it was read and there was memory
-pub answers : (left left_after : Option (List ℕ)) (faults faults_after : ℕ) (old new : Option (List ℕ)) (came : memory.Memory) (ended : Status) (nvm : memory.Memory)
-    → LeavesRun left left_after faults faults_after old new came ended nvm → IfSome left (λ text. (at : ℕ) (cause : JobCause) → verdict text ≡ Faulty at cause → AnswersFault at cause old new ended)
-answers None left_after faults faults_after old new came ended nvm did = tt
-answers (Some all) left_after faults faults_after old new came ended nvm did = λ at cause fault. elim did [
+pub answers : (left left_after : Option (List ℕ)) (source_ended : Type 0) (faults faults_after : ℕ) (old new : Option (List ℕ)) (came : memory.Memory) (ended : Status) (nvm : memory.Memory)
+    → LeavesRun left left_after source_ended faults faults_after old new came ended nvm → IfSome left (λ text. (at : ℕ) (cause : JobCause) → verdict text ≡ Faulty at cause → AnswersFault at cause old new ended)
+answers None left_after source_ended faults faults_after old new came ended nvm did = tt
+answers (Some all) left_after source_ended faults faults_after old new came ended nvm did = λ at cause fault. elim did [
   | inl failed ↦ others status.ReadFault line.ReadFault at cause old new ended (λ e. cc) (λ e. cc) (λ e. cc) failed.ends.last_line
   | inr more ↦ elim more [
     | inl none ↦ others status.Memory line.Memory at cause old new ended (λ e. cc) (λ e. cc) (λ e. cc) none.last_line

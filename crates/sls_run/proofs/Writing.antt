@@ -6,7 +6,7 @@ use Rattle.sls_base.specs.declared.entry.Entry.{Entry}
 use Rattle.sls_kernel.specs.Plain.{World, accept, offered, is_offered, accepted_count}
 use Rattle.sls_kernel.specs.Shows.{Shows, Stands, durable_words}
 use Rattle.sls_kernel.specs.declared.machine.Machine.{Machine}
-use Rattle.sls_io.specs.declared.sink.SinkError.{SinkError}
+use Rattle.sls_run.specs.declared.lines.BreakCause.{BreakCause}
 use Rattle.sls_run.specs.declared.report.Printed.{Printed}
 use Rattle.sls_run.specs.declared.report.Printed.TheVariants.{Out, Dry}
 use Rattle.std.proofs.Math.Seq.{drop-cons}
@@ -81,9 +81,9 @@ take_goes_on old mid new m n count left next channel w entry t e given shows wri
       shows = shows;
     }
 
-pub take_breaks : (error : SinkError) (old mid new : Option (List ℕ)) (nvm : memory.Memory) (m : Machine) (count left next channel : ℕ) (w : World) (entry : Entry) (t : Taking old mid m count left channel w) → left ≡ suc next → Some entry ≡ offered t.now channel
-    → PartWritten error mid new (line_text (Out channel entry)) → Stands (durable_words nvm) (accepted_count (accept t.now channel)) (accept t.now channel).saved → BreaksAt error old new nvm (take_prints count channel w)
-take_breaks error old mid new nvm m count left next channel w entry t e given part stands =
+pub take_breaks : (cause : BreakCause) (old mid new : Option (List ℕ)) (nvm : memory.Memory) (m : Machine) (count left next channel : ℕ) (w : World) (entry : Entry) (t : Taking old mid m count left channel w) → left ≡ suc next → Some entry ≡ offered t.now channel
+    → PartWritten cause mid new (Out channel entry) → Stands (durable_words nvm) (accepted_count (accept t.now channel)) (accept t.now channel).saved → BreaksAt cause old new nvm (take_prints count channel w)
+take_breaks cause old mid new nvm m count left next channel w entry t e given part stands =
     let more = take_some next channel t.now entry given in
     let x : Printed × World = (Out channel entry, accept t.now channel) in
     record {
@@ -91,7 +91,7 @@ take_breaks error old mid new nvm m count left next channel w entry t e given pa
       at = x;
       rest = take_prints next channel (accept t.now channel);
       split = next_line (take_prints count channel w) t.printed (take_prints left channel t.now) (take_prints next channel (accept t.now channel)) x t.split (ap (λ (k : ℕ). take_prints k channel t.now) e ∙ more.0);
-      written = subst (λ (o : Option (List ℕ)). PartWritten error o new (line_text (Out channel entry))) t.written part;
+      written = subst (λ (o : Option (List ℕ)). PartWritten cause o new (Out channel entry)) t.written part;
       stands = stands;
     }
 
@@ -105,16 +105,16 @@ dry_ran old mid new m n count left next channel w t e given shows written =
       shows = subst (λ (x : World). Shows n x) (sym (t.ends ∙ (ap (λ (k : ℕ). taken k channel t.now) e ∙ none.1))) shows;
     }
 
-pub dry_breaks : (error : SinkError) (old mid new : Option (List ℕ)) (nvm : memory.Memory) (m : Machine) (count left next channel : ℕ) (w : World) (t : Taking old mid m count left channel w) → left ≡ suc next → None ≡ offered t.now channel
-    → PartWritten error mid new (line_text (Dry channel)) → Stands (durable_words nvm) (accepted_count t.now) t.now.saved → BreaksAt error old new nvm (take_prints count channel w)
-dry_breaks error old mid new nvm m count left next channel w t e given part stands =
+pub dry_breaks : (cause : BreakCause) (old mid new : Option (List ℕ)) (nvm : memory.Memory) (m : Machine) (count left next channel : ℕ) (w : World) (t : Taking old mid m count left channel w) → left ≡ suc next → None ≡ offered t.now channel
+    → PartWritten cause mid new (Dry channel) → Stands (durable_words nvm) (accepted_count t.now) t.now.saved → BreaksAt cause old new nvm (take_prints count channel w)
+dry_breaks cause old mid new nvm m count left next channel w t e given part stands =
     let none = take_none next channel t.now given in
     record {
       before = t.printed;
       at = (Dry channel, t.now);
       rest = [];
       split = next_line (take_prints count channel w) t.printed (take_prints left channel t.now) [] (Dry channel, t.now) t.split (ap (λ (k : ℕ). take_prints k channel t.now) e ∙ none.0);
-      written = subst (λ (o : Option (List ℕ)). PartWritten error o new (line_text (Dry channel))) t.written part;
+      written = subst (λ (o : Option (List ℕ)). PartWritten cause o new (Dry channel)) t.written part;
       stands = stands;
     }
 
@@ -148,13 +148,13 @@ pub accept_none : (w : World) (channel : ℕ) → None ≡ offered w channel →
 accept_none w channel e = accept_of (is_offered w channel) w _ _ e
 
 -- the one line of what was to be printed wasn't
-pub one_breaks : (error : SinkError) (old new : Option (List ℕ)) (nvm : memory.Memory) (line : Printed) (w : World) → PartWritten error old new (line_text line) → Stands (durable_words nvm) (accepted_count w) w.saved → BreaksAt error old new nvm ((line, w) ∷ [])
-one_breaks error old new nvm line w part stands = record {
+pub one_breaks : (cause : BreakCause) (old new : Option (List ℕ)) (nvm : memory.Memory) (line : Printed) (w : World) → PartWritten cause old new line → Stands (durable_words nvm) (accepted_count w) w.saved → BreaksAt cause old new nvm ((line, w) ∷ [])
+one_breaks cause old new nvm line w part stands = record {
   before = [];
   at = (line, w);
   rest = [];
   split = refl;
-  written = subst (λ (o : Option (List ℕ)). PartWritten error o new (line_text line)) (append_known-nil old) part;
+  written = subst (λ (o : Option (List ℕ)). PartWritten cause o new line) (append_known-nil old) part;
   stands = stands;
 }
 
@@ -172,16 +172,16 @@ lines_go_on old mid new m n line left prints end t ran = record {
   shows = ran.shows;
 }
 
-pub lines_break : (error : SinkError) (old mid new : Option (List ℕ)) (nvm : memory.Memory) (m : Machine) (line : Line) (left : List Line) (prints : List (Printed × World)) (end : World) (t : SoFar old mid m (all_prints (line ∷ left)) (world_after (line ∷ left)) prints end)
-    → BreaksAt error mid new nvm (prints_of line t.now) → BreaksAt error old new nvm prints
-lines_break error old mid new nvm m line left prints end t broke = record {
+pub lines_break : (cause : BreakCause) (old mid new : Option (List ℕ)) (nvm : memory.Memory) (m : Machine) (line : Line) (left : List Line) (prints : List (Printed × World)) (end : World) (t : SoFar old mid m (all_prints (line ∷ left)) (world_after (line ∷ left)) prints end)
+    → BreaksAt cause mid new nvm (prints_of line t.now) → BreaksAt cause old new nvm prints
+lines_break cause old mid new nvm m line left prints end t broke = record {
   before = t.printed ++ broke.before;
   at = broke.at;
   rest = broke.rest ++ all_prints left (after line t.now);
   split = t.split ∙ (ap (λ (l : List (Printed × World)). t.printed ++ (l ++ all_prints left (after line t.now))) broke.split
       ∙ (ap (λ (l : List (Printed × World)). t.printed ++ l) (append_assoc broke.before (broke.at ∷ broke.rest) (all_prints left (after line t.now)))
       ∙ sym (append_assoc t.printed broke.before (broke.at ∷ (broke.rest ++ all_prints left (after line t.now))))));
-  written = subst (λ (o : Option (List ℕ)). PartWritten error o new (line_text broke.at.0))
+  written = subst (λ (o : Option (List ℕ)). PartWritten cause o new broke.at.0)
       (ap (λ (o : Option (List ℕ)). append_known o (text_of broke.before)) t.written ∙ (append_known-append old (text_of t.printed) (text_of broke.before) ∙ ap (append_known old) (sym (text_of-append t.printed broke.before)))) broke.written;
   stands = broke.stands;
 }

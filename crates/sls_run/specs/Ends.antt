@@ -2,7 +2,6 @@
 use Rattle.std.specs.Prelude.{◌≡◌, ◌<◌, ℕ, List, ◌∷◌, ◌++◌, Option}
 use Rattle.std.specs.Io.KnownBytes.{append_known}
 use Rattle.sls_io.specs.Sink.{AppendsPrefix}
-use Rattle.sls_io.specs.declared.sink.SinkError.{SinkError}
 use Rattle.sls_io.specs.declared.sink.SinkError.TheVariants.{Failed, Memory}
 use Rattle.pmem_model.specs.Memory as memory
 use Rattle.sls_kernel.specs.Plain.{World, commit, accepted_count}
@@ -10,7 +9,10 @@ use Rattle.sls_kernel.specs.Shows.{Shows, Stands, durable_words}
 use Rattle.sls_kernel.specs.declared.machine.Machine.{Machine}
 use Rattle.job_script.specs.declared.line.Line.{Line}
 use Rattle.job_script.specs.declared.line.Line.TheVariants as job
+use Rattle.sls_run.specs.declared.lines.BreakCause.{BreakCause}
+use Rattle.sls_run.specs.declared.lines.BreakCause.TheVariants.{NotWritten, NotLit}
 use Rattle.sls_run.specs.declared.report.Printed.{Printed}
+use Rattle.sls_run.specs.declared.report.Printed.TheVariants.{Up}
 use Rattle.sls_run.specs.Report.{line_text, text_of}
 
 -- the machine shows what it showed
@@ -31,19 +33,25 @@ HasChannels job.Checkpoint = Unit {0}
 HasChannels (job.Cut seed) = Unit {0}
 HasChannels job.End = Unit {0}
 
--- what a write that ended so has written of a line: some first bytes, or nothing where there was no memory
-abbrev pub PartWritten : SinkError → Option (List ℕ) → Option (List ℕ) → List ℕ → Type 0
-PartWritten Failed old new line = AppendsPrefix old new line
-PartWritten Memory old new line = new ≡ old
+-- the sink answered that it has no memory for a line, and nothing of it was written
+abbrev pub SinkHasNoMemory : Option (List ℕ) → Option (List ℕ) → Type 0
+SinkHasNoMemory old new = new ≡ old
 
--- The run broke at a line that it was to print: the lines before it were written, and a part of it; and the durable
--- words stand for the saved copy of the world at that line.
-pub record BreaksAt (error : SinkError) (old new : Option (List ℕ)) (nvm : memory.Memory) (prints : List (Printed × World)) : Type 0 where
+-- What was written of the line that a run broke at: some first bytes where its write failed, and nothing where the sink
+-- has no memory for it. Where the machine could not be lit, the line was to tell that it is up again.
+abbrev pub PartWritten : BreakCause → Option (List ℕ) → Option (List ℕ) → Printed → Type 0
+PartWritten (NotWritten Failed) old new line = AppendsPrefix old new (line_text line)
+PartWritten (NotWritten Memory) old new line = SinkHasNoMemory old new
+PartWritten NotLit old new line = (version : ℕ) × (line ≡ Up version) × (new ≡ old)
+
+-- The run broke at a line that it was to print: the lines before it were written, and at most a part of it; and the
+-- durable words stand for the saved copy of the world at that line.
+pub record BreaksAt (cause : BreakCause) (old new : Option (List ℕ)) (nvm : memory.Memory) (prints : List (Printed × World)) : Type 0 where
   pub before : List (Printed × World)
   pub at : Printed × World
   pub rest : List (Printed × World)
   pub split : prints ≡ before ++ at ∷ rest
-  pub written : PartWritten error (append_known old (text_of before)) new (line_text at.0)
+  pub written : PartWritten cause (append_known old (text_of before)) new at.0
   pub stands : Stands (durable_words nvm) (accepted_count at.1) at.1.saved
 
 -- All of these lines were written, and the machine shows the world behind them.

@@ -11,12 +11,13 @@ use Rattle.job_script.specs.declared.line.Line.{Line}
 use Rattle.job_script.specs.declared.fault.JobCause.{JobCause}
 use Rattle.job_script.specs.Grammar.{Verdict, Good, Faulty, verdict}
 use Rattle.job_script.specs.Job.{words_of}
+use Rattle.sls_run.specs.declared.lines.BreakCause.TheVariants as cause
 use Rattle.sls_run.specs.declared.status.Status.{Status}
 use Rattle.sls_run.specs.declared.status.Status.TheVariants as status
 use Rattle.sls_run.specs.declared.report.Printed.{Printed}
 use Rattle.sls_run.specs.declared.report.Printed.TheVariants as line
 use Rattle.sls_run.specs.Report.{line_text, report, first_of, all_prints, world_after}
-use Rattle.sls_run.specs.Ends.{BreaksAt}
+use Rattle.sls_run.specs.Ends.{BreaksAt, SinkHasNoMemory}
 
 -- the plain machine behind the lines of a job
 abbrev pub end_of : List Line → World
@@ -34,29 +35,31 @@ pub record RunsWhole (lines : List Line) (old new : Option (List ℕ)) (nvm : me
   pub commits : nvm.commits ≡ (end_of lines).commits
   pub cuts : nvm.cuts ≡ one_more (end_of lines).cuts
 
--- a status's last line after what was written: all of it, a part where its write failed, or nothing where there was no
--- memory for it
+-- A status's last line after what was written: all of it, a part where its write failed, or nothing where the sink had
+-- no memory for it. The line `memory` too is missing only there.
 abbrev pub LastLine : Status → Printed → Option (List ℕ) → Option (List ℕ) → Status → Type 0
 LastLine wanted last old new status.WriteFault = AppendsPrefix old new (line_text last)
-LastLine wanted last old new status.Memory = (new ≡ old) ⊎ (wanted ≡ status.Memory) × (new ≡ append_known old (line_text last))
+LastLine wanted last old new status.Memory = SinkHasNoMemory old new ⊎ (wanted ≡ status.Memory) × (new ≡ append_known old (line_text last))
 LastLine wanted last old new status.Done = (wanted ≡ status.Done) × (new ≡ append_known old (line_text last))
 LastLine wanted last old new status.Usage = (wanted ≡ status.Usage) × (new ≡ append_known old (line_text last))
 LastLine wanted last old new status.BadJob = (wanted ≡ status.BadJob) × (new ≡ append_known old (line_text last))
 LastLine wanted last old new status.ReadFault = (wanted ≡ status.ReadFault) × (new ≡ append_known old (line_text last))
 
--- the run broke where there was no memory, and the last line was tried
+-- the run broke where there was no memory to light the machine again, and the line `memory` follows
 pub record BreaksInMemory (lines : List Line) (old new : Option (List ℕ)) (nvm : memory.Memory) (ended : Status) : Type 0 where
   pub between : Option (List ℕ)
-  pub broke : BreaksAt error.Memory old between nvm (prints lines)
+  pub broke : BreaksAt cause.NotLit old between nvm (prints lines)
   pub last : LastLine status.Memory line.Memory between new ended
 
--- What a run of a job's lines leaves on a memory that came as it was made.
+-- What a run of a job's lines leaves on a memory that came as it was made. Where a line of the report wasn't written, by
+-- a fault or since the sink has no memory for it, nothing follows. Where there was no memory to make the machine or to
+-- light it again, the line `memory` follows.
 abbrev pub IsRun : List Line → Option (List ℕ) → Option (List ℕ) → memory.Memory → Status → memory.Memory → Type 0
 IsRun lines old new came status.Done nvm = RunsWhole lines old new nvm
 IsRun lines old new came status.WriteFault nvm =
-    BreaksAt error.Failed old new nvm (prints lines) ⊎ (BreaksInMemory lines old new nvm status.WriteFault ⊎ (nvm ≡ came) × LastLine status.Memory line.Memory old new status.WriteFault)
+    BreaksAt (cause.NotWritten error.Failed) old new nvm (prints lines) ⊎ (BreaksInMemory lines old new nvm status.WriteFault ⊎ (nvm ≡ came) × LastLine status.Memory line.Memory old new status.WriteFault)
 IsRun lines old new came status.Memory nvm =
-    BreaksInMemory lines old new nvm status.Memory ⊎ (nvm ≡ came) × LastLine status.Memory line.Memory old new status.Memory
+    BreaksAt (cause.NotWritten error.Memory) old new nvm (prints lines) ⊎ (BreaksInMemory lines old new nvm status.Memory ⊎ (nvm ≡ came) × LastLine status.Memory line.Memory old new status.Memory)
 IsRun lines old new came status.Usage nvm = ⊥
 IsRun lines old new came status.BadJob nvm = ⊥
 IsRun lines old new came status.ReadFault nvm = ⊥
@@ -78,11 +81,12 @@ pub record IsRead (left : Option (List ℕ)) (said : Verdict) : Type 0 where
   pub is_text : IfSome left (λ all. verdict all ≡ verdict text)
   pub says : verdict text ≡ said
 
--- The job was read to its end, and was run.
-pub record RanJob (left left_after old new : Option (List ℕ)) (came : memory.Memory) (ended : Status) (nvm : memory.Memory) : Type 0 where
+-- The job was read to its end, told or not, and was run.
+pub record RanJob (left left_after : Option (List ℕ)) (source_ended : Type 0) (old new : Option (List ℕ)) (came : memory.Memory) (ended : Status) (nvm : memory.Memory) : Type 0 where
   pub lines : List Line
   pub read : IsRead left (Good lines)
   pub at_end : IsAtEnd left_after
+  pub met_end : source_ended
   pub run : IsRun lines old new came ended nvm
 
 -- The job is at fault, and the last line tells where and why.
@@ -98,12 +102,12 @@ pub record FailedRead (faults faults_after : ℕ) (old new : Option (List ℕ)) 
   pub ends : EndsAt status.ReadFault line.ReadFault old new came nvm ended
 
 -- What a run leaves: a read of the job failed, or there was no memory to read it, or it is at fault, or it was run.
-abbrev pub LeavesRun : (left left_after : Option (List ℕ)) → ℕ → ℕ → Option (List ℕ) → Option (List ℕ) → memory.Memory → Status → memory.Memory → Type 0
-LeavesRun left left_after faults faults_after old new came ended nvm =
+abbrev pub LeavesRun : (left left_after : Option (List ℕ)) → Type 0 → ℕ → ℕ → Option (List ℕ) → Option (List ℕ) → memory.Memory → Status → memory.Memory → Type 0
+LeavesRun left left_after source_ended faults faults_after old new came ended nvm =
     FailedRead faults faults_after old new came ended nvm
     ⊎ (EndsAt status.Memory line.Memory old new came nvm ended
     ⊎ (RefusedJob left old new came ended nvm
-    ⊎ RanJob left left_after old new came ended nvm))
+    ⊎ RanJob left left_after source_ended old new came ended nvm))
 
 -- What a run of a text leaves: there was no memory to read it, or it is at fault, or it is a job, which was run.
 abbrev pub LeavesText : List ℕ → Option (List ℕ) → Option (List ℕ) → memory.Memory → Status → memory.Memory → Type 0

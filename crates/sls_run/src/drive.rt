@@ -1,6 +1,7 @@
 //! Drives a machine through whole checkpoints, power cuts and runs.
 
 ghost use Rattle.std.specs.Prelude.{◌≡◌, ◌⊎◌, ◌<◌, ◌≤◌, ℕ, IfOk, IfErr, IsTrue};
+ghost use Rattle.pmem_model.specs.Memory.{AllHome};
 ghost use Rattle.sls_kernel.specs.Plain.{World, cut, commit, accepted_count};
 ghost use Rattle.sls_kernel.specs.Side.{Formatting, Recovering, Running, BeforeCommit, mode, left};
 ghost use Rattle.sls_kernel.specs.Shows.{Shows, Stands, durable_words};
@@ -102,6 +103,7 @@ pub fn restart(alloc: Global, image: &Image, machine: Machine) -> Result<Machine
     ensures up { IfOk result (λ new. mode new ≡ Running) }
     ensures shows { IfOk result (λ new. (w : World) → Shows machine w → Shows new (cut w)) }
     ensures refused { IfErr result (λ nvm. (w : World) → Shows machine w → Stands (durable_words nvm) (accepted_count w) w.saved) }
+    ensures home { IfErr result AllHome }
 {
     match machine.cut().light(alloc, image, 1) {
         Ok(mut machine) => {

@@ -2,6 +2,7 @@
 
 ghost use Rattle.std.specs.Prelude.{◌≡◌, ◌≤◌, ◌<◌, ℕ, IfOk, IfErr, OnOk, OnErr, is_some};
 ghost use Rattle.std.specs.Io.KnownBytes.{append_known};
+ghost use Rattle.pmem_model.specs.Memory.{AllHome};
 ghost use Rattle.sls_io.specs.Faults.{Rose};
 ghost use Rattle.sls_kernel.specs.Plain.{World, accepted_count};
 ghost use Rattle.sls_kernel.specs.Program.{IsOfCode};
@@ -21,33 +22,38 @@ use sls_io::{Sink, SinkError};
 use sls_kernel::Machine;
 use std::alloc::Global;
 
-/// A run that ended before its job: why the line that it was to print wasn't written, and the memory after a last cut.
+/// Why a run ended before its job.
+#[derive(Clone, Copy)]
+pub enum BreakCause {
+    /// A line wasn't written: the write failed, or the sink had no memory for it.
+    NotWritten(SinkError),
+    /// There was no memory to light the machine again after a cut.
+    NotLit,
+}
+
+/// A run that ended before its job: why, and the memory after a last cut.
 #[derive(Drop)]
 pub struct Broken {
-    pub error: SinkError,
+    pub cause: BreakCause,
     pub nvm: Pmem,
+    ghost home: { AllHome nvm },
 }
 
 /// Prints a line of a machine that runs. Where it can't be written the power is cut.
-fn say<O: Sink>(
-    alloc: Global,
-    out: &mut O,
-    line: Printed,
-    machine: Machine,
-) -> Result<Machine, Broken>
+fn say<O: Sink>(out: &mut O, line: Printed, machine: Machine) -> Result<Machine, Broken>
     requires { mode machine ≡ Running }
     ensures same { IfOk result (λ new. new ≡ machine) }
     ensures written { OnOk result (O.written out.new ≡ append_known (O.written out.old) (line_text line)) }
-    ensures part { IfErr result (λ broken. PartWritten broken.error (O.written out.old) (O.written out.new) (line_text line)) }
+    ensures part { IfErr result (λ broken. PartWritten broken.cause (O.written out.old) (O.written out.new) line) }
     ensures stands { IfErr result (λ broken. (w : World) → Shows machine w → Stands (durable_words broken.nvm) (accepted_count w) w.saved) }
-    ensures cause { IfErr result (λ broken. broken.error ≡ SinkError.Failed → Rose (O.faults out.old) (O.faults out.new)) }
+    ensures cause { IfErr result (λ broken. broken.cause ≡ BreakCause.NotWritten SinkError.Failed → Rose (O.faults out.old) (O.faults out.new)) }
     ensures told { is_some (O.written out.new) ≡ is_some (O.written out.old) }
     ensures never_falls { O.faults out.old ≤ O.faults out.new }
 {
-    match print(alloc, out, line) {
+    match print(out, line) {
         Ok(()) => Ok(machine),
         Err(error) => Err(Broken {
-            error,
+            cause: BreakCause::NotWritten(error),
             nvm: machine.cut().nvm,
         }),
     }
@@ -55,7 +61,6 @@ fn say<O: Sink>(
 
 /// Accepts up to so many entries of a channel, each a line, up to the first that isn't there.
 fn take<O: Sink>(
-    alloc: Global,
     channel: u8,
     count: u64,
     out: &mut O,
@@ -67,18 +72,18 @@ fn take<O: Sink>(
     ensures ran { IfOk result (λ new. (w : World) → Shows machine w
         → Ran (O.written out.old) (O.written out.new) new (take_prints count channel w) (taken count channel w)) }
     ensures broke { IfErr result (λ broken. (w : World) → Shows machine w
-        → BreaksAt broken.error (O.written out.old) (O.written out.new) broken.nvm (take_prints count channel w)) }
-    ensures cause { IfErr result (λ broken. broken.error ≡ SinkError.Failed → Rose (O.faults out.old) (O.faults out.new)) }
+        → BreaksAt broken.cause (O.written out.old) (O.written out.new) broken.nvm (take_prints count channel w)) }
+    ensures cause { IfErr result (λ broken. broken.cause ≡ BreakCause.NotWritten SinkError.Failed → Rose (O.faults out.old) (O.faults out.new)) }
     ensures told { is_some (O.written out.new) ≡ is_some (O.written out.old) }
     ensures never_falls { O.faults out.old ≤ O.faults out.new }
 {
     'entries: for _i in 0..count {
         match machine.accept(channel) {
-            Some(entry) => match say(alloc, out, Printed::Out(channel, entry), machine) {
+            Some(entry) => match say(out, Printed::Out(channel, entry), machine) {
                 Ok(next) => machine = next,
                 Err(broken) => return Err(broken),
             },
-            None => return say(alloc, out, Printed::Dry(channel), machine),
+            None => return say(out, Printed::Dry(channel), machine),
         }
     }
     Ok(machine)
@@ -99,8 +104,8 @@ fn run_line<O: Sink>(
     ensures ran { IfOk result (λ new. (w : World) → Shows machine w
         → Ran (O.written out.old) (O.written out.new) new (prints_of line w) (after line w)) }
     ensures broke { IfErr result (λ broken. (w : World) → Shows machine w
-        → BreaksAt broken.error (O.written out.old) (O.written out.new) broken.nvm (prints_of line w)) }
-    ensures cause { IfErr result (λ broken. broken.error ≡ SinkError.Failed → Rose (O.faults out.old) (O.faults out.new)) }
+        → BreaksAt broken.cause (O.written out.old) (O.written out.new) broken.nvm (prints_of line w)) }
+    ensures cause { IfErr result (λ broken. broken.cause ≡ BreakCause.NotWritten SinkError.Failed → Rose (O.faults out.old) (O.faults out.new)) }
     ensures told { is_some (O.written out.new) ≡ is_some (O.written out.old) }
     ensures never_falls { O.faults out.old ≤ O.faults out.new }
 {
@@ -112,23 +117,23 @@ fn run_line<O: Sink>(
         }
         Line::Checkpoint => {
             let line = drive::checkpoint(alloc, &mut machine);
-            say(alloc, out, line, machine)
+            say(out, line, machine)
         }
         Line::Cut(seed) => {
             drive::write_backs(&mut machine, seed);
             match drive::restart(alloc, image, machine) {
                 Ok(machine) => {
                     let version = machine.version();
-                    say(alloc, out, Printed::Up(version), machine)
+                    say(out, Printed::Up(version), machine)
                 }
                 Err(nvm) => Err(Broken {
-                    error: SinkError::Memory,
+                    cause: BreakCause::NotLit,
                     nvm,
                 }),
             }
         }
-        Line::Take { channel, n } => take(alloc, channel, n, out, machine),
-        Line::End => say(alloc, out, Printed::Done, machine),
+        Line::Take { channel, n } => take(channel, n, out, machine),
+        Line::End => say(out, Printed::Done, machine),
     }
 }
 
@@ -147,8 +152,8 @@ pub fn run_lines<O: Sink>(
     ensures ran { IfOk result (λ new. (w : World) → Shows machine w
         → Ran (O.written out.old) (O.written out.new) new (all_prints lines.now w) (world_after lines.now w)) }
     ensures broke { IfErr result (λ broken. (w : World) → Shows machine w
-        → BreaksAt broken.error (O.written out.old) (O.written out.new) broken.nvm (all_prints lines.now w)) }
-    ensures cause { IfErr result (λ broken. broken.error ≡ SinkError.Failed → Rose (O.faults out.old) (O.faults out.new)) }
+        → BreaksAt broken.cause (O.written out.old) (O.written out.new) broken.nvm (all_prints lines.now w)) }
+    ensures cause { IfErr result (λ broken. broken.cause ≡ BreakCause.NotWritten SinkError.Failed → Rose (O.faults out.old) (O.faults out.new)) }
     ensures told { is_some (O.written out.new) ≡ is_some (O.written out.old) }
     ensures never_falls { O.faults out.old ≤ O.faults out.new }
 {

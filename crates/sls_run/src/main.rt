@@ -1,8 +1,13 @@
 //! Runs jobs on a machine with persistent memory, and reports as the plain machine would.
 #![tactic(auto)]
 
+ghost use Rattle.std.specs.Prelude.{◌≡◌, ◌↔◌, [], IsOk, IfOk, IfErr, OnErr};
+ghost use Rattle.std.specs.IoError.{error_kind};
+
 mod code;
 mod drive;
+#[cfg(test)]
+mod edge_tests;
 mod lines;
 #[cfg(test)]
 mod plain;
@@ -12,25 +17,38 @@ mod status;
 #[cfg(test)]
 mod tests;
 
-use crate::run_job::run_job;
+use crate::report::Printed;
+use crate::run_job::{end, run_job};
 use crate::status::Status;
 use pmem_model::Pmem;
 use sls_io::{MemShelf, StdSink, StdSource};
+use std::alloc::{AllocError, Global};
+use std::env::{self, Args};
+use std::io::{self, ErrorKind};
 use std::process::ExitCode;
-use std::{env, io};
+
+/// The words behind the program's name, and none where one is no text.
+fn words_of(alloc: Global, args: io::Result<Args>) -> Result<Vec<String>, AllocError>
+    ensures no_text { IfErr args (λ error. IsOk result ↔ (error_kind error ≡ ErrorKind.InvalidData)) }
+    ensures none { OnErr args (IfOk result (λ words. words.items ≡ [])) }
+{
+    match args {
+        Ok(args) => args.skip(1).collect(alloc),
+        Err(error) if error.kind() == ErrorKind::InvalidData => Ok(Vec::new(alloc)),
+        Err(_) => Err(AllocError),
+    }
+}
 
 /// Runs the job on standard input, and reports on standard output. The words behind the program's name are to be
 /// exactly `run`.
-fn main(rt: HostRuntime) -> io::Result<ExitCode> {
+fn main(rt: HostRuntime) -> ExitCode {
     let alloc = rt.alloc();
-    let words: Vec<String> = env::args(&rt)?.skip(1).collect(alloc)?;
     let mut job = StdSource::new(rt.stdin());
     let mut out = StdSink::new(rt.stdout());
     let mut shelf = MemShelf::new(alloc);
-    let Ok(nvm) = Pmem::new(alloc) else {
-        println!(rt; "memory")?;
-        return Ok(Status::Memory.exit_code());
+    let (Ok(words), Ok(nvm)) = (words_of(alloc, env::args(&rt)), Pmem::new(alloc)) else {
+        return end(&mut out, Status::Memory, Printed::Memory).exit_code();
     };
     let (status, _) = run_job(alloc, &words, &mut job, &mut out, &mut shelf, nvm);
-    Ok(status.exit_code())
+    status.exit_code()
 }

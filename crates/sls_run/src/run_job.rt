@@ -17,7 +17,7 @@ ghost use Rattle.sls_run.specs.declared.report.Printed.TheVariants as line;
 
 use crate::code::image_of_lines;
 use crate::drive;
-use crate::lines::{Broken, run_lines};
+use crate::lines::{BreakCause, Broken, run_lines};
 use crate::report::{Printed, print};
 use crate::status::Status;
 use job_script::{JobError, Line, read_job};
@@ -30,22 +30,22 @@ use std::alloc::Global;
 /// The bytes that a job may have.
 const JOB_BYTES: usize = 65_536;
 
-/// Prints the last line of a status. A write that fails, or finds no memory, makes the status so.
-fn end<O: Sink>(alloc: Global, out: &mut O, status: Status, line: Printed) -> Status
+/// Prints the last line of a status. A write that fails, or that the sink has no memory for, makes the status so.
+pub fn end<O: Sink>(out: &mut O, status: Status, line: Printed) -> Status
     requires { status ≢ Status.WriteFault }
     ensures last { LastLine status line (O.written out.old) (O.written out.new) result }
     ensures cause { result ≡ Status.WriteFault → Rose (O.faults out.old) (O.faults out.new) }
     ensures told { is_some (O.written out.new) ≡ is_some (O.written out.old) }
     ensures never_falls { O.faults out.old ≤ O.faults out.new }
 {
-    match print(alloc, out, line) {
+    match print(out, line) {
         Ok(()) => status,
         Err(SinkError::Failed) => Status::WriteFault,
         Err(SinkError::Memory) => Status::Memory,
     }
 }
 
-/// Runs the lines of a job on a machine that is up, and cuts its power.
+/// Runs the lines of a job on a machine that is up, and cuts its power. Where a line wasn't written nothing further is.
 fn run_up<O: Sink>(
     alloc: Global,
     image: &Image,
@@ -58,24 +58,18 @@ fn run_up<O: Sink>(
     requires job { IsJob lines.now }
     requires first { Shows machine (first_of (words_of lines.now)) }
     ensures run { (came : Pmem) → IsRun lines.now (O.written out.old) (O.written out.new) came result.0 result.1 }
+    ensures home { AllHome result.1 }
     ensures cause { result.0 ≡ Status.WriteFault → Rose (O.faults out.old) (O.faults out.new) }
     ensures told { is_some (O.written out.new) ≡ is_some (O.written out.old) }
     ensures never_falls { O.faults out.old ≤ O.faults out.new }
 {
     match run_lines(alloc, image, lines, out, machine) {
         Ok(machine) => (Status::Done, machine.cut().nvm),
-        Err(
-            Broken {
-                error: SinkError::Failed,
-                nvm,
-            },
-        ) => (Status::WriteFault, nvm),
-        Err(
-            Broken {
-                error: SinkError::Memory,
-                nvm,
-            },
-        ) => (end(alloc, out, Status::Memory, Printed::Memory), nvm),
+        Err(Broken { cause, nvm }) => match cause {
+            BreakCause::NotWritten(SinkError::Failed) => (Status::WriteFault, nvm),
+            BreakCause::NotWritten(SinkError::Memory) => (Status::Memory, nvm),
+            BreakCause::NotLit => (end(out, Status::Memory, Printed::Memory), nvm),
+        },
     }
 }
 
@@ -87,22 +81,20 @@ fn run_parsed<O: Sink>(alloc: Global, lines: &[Line], out: &mut O, nvm: Pmem) ->
     requires cuts { nvm.cuts ≡ 0 }
     requires job { IsJob lines.now }
     ensures run { IsRun lines.now (O.written out.old) (O.written out.new) nvm result.0 result.1 }
+    ensures home { AllHome result.1 }
     ensures cause { result.0 ≡ Status.WriteFault → Rose (O.faults out.old) (O.faults out.new) }
     ensures told { is_some (O.written out.new) ≡ is_some (O.written out.old) }
     ensures never_falls { O.faults out.old ≤ O.faults out.new }
 {
     let Ok(image) = image_of_lines(alloc, lines) else {
-        return (end(alloc, out, Status::Memory, Printed::Memory), nvm);
+        return (end(out, Status::Memory, Printed::Memory), nvm);
     };
     match Machine::boot(alloc, &image, 1, nvm) {
         Ok(mut machine) => {
             drive::bring_up(&mut machine);
             run_up(alloc, &image, lines, out, machine)
         }
-        Err(refused) => (
-            end(alloc, out, Status::Memory, Printed::Memory),
-            refused.nvm,
-        ),
+        Err(refused) => (end(out, Status::Memory, Printed::Memory), refused.nvm),
     }
 }
 
@@ -120,9 +112,10 @@ fn is_run(words: &[String]) -> bool
 /// machine, and the memory that comes back stands for what it saved.
 ///
 /// The words are the program's, and are exactly `run`. A job of this machine needs no shelf, which stays as it is. Each
-/// line is written in one call. A status but `Done` and `WriteFault` has its own last line; where that can't be written,
-/// the status is `WriteFault` or `Memory`. What is given back is the memory as it came where nothing was run, and else
-/// that of the machine after a last power cut.
+/// line is written in one call. A write that fails ends the run with `WriteFault`, and one that the sink has no memory
+/// for with `Memory`; this goes before the status whose line it was, and nothing further is written. Else a status but
+/// `Done` has its own last line. What is given back is the memory as it came where nothing was run, and else that of the
+/// machine after a last power cut.
 pub fn run_job<S: Source, O: Sink, F: Shelf>(
     alloc: Global,
     words: &[String],
@@ -136,12 +129,14 @@ pub fn run_job<S: Source, O: Sink, F: Shelf>(
     requires commits { nvm.commits ≡ 0 }
     requires cuts { nvm.cuts ≡ 0 }
     ensures usage { (IsRunWords words.now → ⊥) → EndsAt Status.Usage line.Usage (O.written out.old) (O.written out.new) nvm result.1 result.0 }
-    ensures run { IsRunWords words.now → LeavesRun (S.left job.old) (S.left job.new) (S.faults job.old) (S.faults job.new)
+    ensures run { IsRunWords words.now → LeavesRun (S.left job.old) (S.left job.new) (S.ended job.new) (S.faults job.old) (S.faults job.new)
         (O.written out.old) (O.written out.new) nvm result.0 result.1 }
     ensures bad_job { result.0 ≡ Status.BadJob → IfSome (S.left job.old) (λ text. TellsFault text (O.written out.old) (O.written out.new)) }
     ensures fault { IsRunWords words.now → IfSome (S.left job.old) (λ text. (at : ℕ) (cause : JobCause) → verdict text ≡ Faulty at cause
         → AnswersFault at cause (O.written out.old) (O.written out.new) result.0) }
+    ensures read_fault { result.0 ≡ Status.ReadFault → Rose (S.faults job.old) (S.faults job.new) }
     ensures write_fault { result.0 ≡ Status.WriteFault → Rose (O.faults out.old) (O.faults out.new) }
+    ensures home { AllHome result.1 }
     ensures told { is_some (O.written out.new) ≡ is_some (O.written out.old) }
     ensures reads { S.faults job.old ≤ S.faults job.new }
     ensures writes { O.faults out.old ≤ O.faults out.new }
@@ -149,12 +144,12 @@ pub fn run_job<S: Source, O: Sink, F: Shelf>(
     ensures shelf_faults { F.faults _shelf.new ≡ F.faults _shelf.old }
 {
     if !is_run(words) {
-        return (end(alloc, out, Status::Usage, Printed::Usage), nvm);
+        return (end(out, Status::Usage, Printed::Usage), nvm);
     }
     match read_to_end(alloc, job, JOB_BYTES) {
         Ok(text) => run_text(alloc, &text, out, nvm),
-        Err(ReadError::Failed) => (end(alloc, out, Status::ReadFault, Printed::ReadFault), nvm),
-        Err(ReadError::Memory) => (end(alloc, out, Status::Memory, Printed::Memory), nvm),
+        Err(ReadError::Failed) => (end(out, Status::ReadFault, Printed::ReadFault), nvm),
+        Err(ReadError::Memory) => (end(out, Status::Memory, Printed::Memory), nvm),
     }
 }
 
@@ -165,6 +160,7 @@ fn run_text<O: Sink>(alloc: Global, text: &[u8], out: &mut O, nvm: Pmem) -> (Sta
     requires commits { nvm.commits ≡ 0 }
     requires cuts { nvm.cuts ≡ 0 }
     ensures run { LeavesText text.now (O.written out.old) (O.written out.new) nvm result.0 result.1 }
+    ensures home { AllHome result.1 }
     ensures write_fault { result.0 ≡ Status.WriteFault → Rose (O.faults out.old) (O.faults out.new) }
     ensures told { is_some (O.written out.new) ≡ is_some (O.written out.old) }
     ensures never_falls { O.faults out.old ≤ O.faults out.new }
@@ -172,9 +168,9 @@ fn run_text<O: Sink>(alloc: Global, text: &[u8], out: &mut O, nvm: Pmem) -> (Sta
     match read_job(alloc, text) {
         Ok(parsed) => run_parsed(alloc, &parsed.lines, out, nvm),
         Err(JobError::Bad { line, cause }) => (
-            end(alloc, out, Status::BadJob, Printed::BadJob(line, cause)),
+            end(out, Status::BadJob, Printed::BadJob(line, cause)),
             nvm,
         ),
-        Err(JobError::Memory) => (end(alloc, out, Status::Memory, Printed::Memory), nvm),
+        Err(JobError::Memory) => (end(out, Status::Memory, Printed::Memory), nvm),
     }
 }

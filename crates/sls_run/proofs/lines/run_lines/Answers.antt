@@ -8,7 +8,7 @@ returns-in-Err-clause-broke g c = λ w s.
     let lines = c.args.lines.now in
     let i = c.loop-line.line-index in
     let t = at_line _ _ _ lines i _ _ c.loop-line-test.true (c.loop-line.invariant.running w s) in
-    lines_break c.in-Err.broken.error _ _ _ c.in-Err.broken.nvm c.loop-line.machine (slice_index_or lines i (Cores 0)) (drop (i + 1) lines) _ _ t (c.in-Err.ensures.broke t.now t.shows)
+    lines_break c.in-Err.broken.cause _ _ _ c.in-Err.broken.nvm c.loop-line.machine (slice_index_or lines i (Cores 0)) (drop (i + 1) lines) _ _ t (c.in-Err.ensures.broke t.now t.shows)
 
 pub loop-line-preserved : goal.loop-line-preserved
 loop-line-preserved g c = record {

@@ -10,7 +10,7 @@ pub returns-in-Err-clause-broke : goal.returns-in-Err-clause-broke
 returns-in-Err-clause-broke g c = λ w s.
     let t = c.entries.invariant.taking w s in
     let does = c.in-Some.ensures.world t.now t.shows in
-    take_breaks c.in-Err.broken.error _ _ _ c.in-Err.broken.nvm c.entries.machine c.args.count (c.args.count - c.entries._i) (c.args.count - (c.entries._i + 1)) c.args.channel w c.in-Some.entry t
+    take_breaks c.in-Err.broken.cause _ _ _ c.in-Err.broken.nvm c.entries.machine c.args.count (c.args.count - c.entries._i) (c.args.count - (c.entries._i + 1)) c.args.channel w c.in-Some.entry t
     (left_falls c.args.count c.entries._i c.entries-test.true) does.0 c.in-Err.ensures.part (c.in-Err.ensures.stands _ does.1)
 
 pub returns-in-None-clause-ran : goal.returns-in-None-clause-ran
@@ -26,7 +26,7 @@ returns-in-None-clause-broke g c = err_both c.say-in-None.result c.say-in-None.e
     let t = c.entries.invariant.taking w s in
     let does = c.in-None.ensures.world t.now t.shows in
     let none = accept_none t.now c.args.channel does.0 in
-    dry_breaks broken.error _ _ _ broken.nvm c.entries.machine c.args.count (c.args.count - c.entries._i) (c.args.count - (c.entries._i + 1)) c.args.channel w t
+    dry_breaks broken.cause _ _ _ broken.nvm c.entries.machine c.args.count (c.args.count - c.entries._i) (c.args.count - (c.entries._i + 1)) c.args.channel w t
     (left_falls c.args.count c.entries._i c.entries-test.true) does.0 part (stands t.now (subst (λ (x : World). Shows c.accept.new.self x) none does.1)))
 
 pub entries-preserved : goal.entries-preserved

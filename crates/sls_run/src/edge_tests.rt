@@ -1,0 +1,91 @@
+//! Lines that can't be written, and words that can't be read.
+
+use crate::run_job::run_job;
+use crate::status::Status;
+use crate::words_of;
+use pmem_model::Pmem;
+use sls_io::{MemShelf, MemSink, MemSource, Sink, SinkError};
+use std::alloc::Global;
+use std::io::{Error, ErrorKind};
+use std::test::Fail;
+
+/// A job whose report has three lines.
+const JOB: &[u8] = b"cores 1\ncode 0000006F\ncheckpoint\ncheckpoint\nend\n";
+
+/// A sink that answers the write with one number, from 1, that it has no memory, and counts the writes.
+#[derive(Drop)]
+struct NoMemoryAt {
+    sink: MemSink,
+    number: u64,
+    writes: u64,
+}
+
+impl NoMemoryAt {
+    fn new(alloc: Global, number: u64) -> Self {
+        NoMemoryAt {
+            sink: MemSink::new(alloc),
+            number,
+            writes: 0,
+        }
+    }
+}
+
+impl Sink for NoMemoryAt {
+    ghost use Rattle.std.specs.Prelude.{Some};
+
+    ghost written = { λ s. Some s.sink.bytes.items };
+
+    ghost faults = { λ s. s.sink.faults };
+
+    fn write(&mut self, bytes: &[u8]) -> Result<(), SinkError> {
+        self.writes = self.writes.saturating_add(1);
+        if self.writes == self.number {
+            return Err(SinkError::Memory);
+        }
+        self.sink.write(bytes)
+    }
+}
+
+/// Runs a job with these words and this sink.
+fn run<O: Sink>(alloc: Global, words: &[String], out: &mut O) -> Result<Status, Fail> {
+    let mut job = MemSource::failing(Vec::from_slice(alloc, JOB)?, Vec::new(alloc));
+    let mut shelf = MemShelf::new(alloc);
+    let (status, _) = run_job(alloc, words, &mut job, out, &mut shelf, Pmem::new(alloc)?);
+    Ok(status)
+}
+
+#[test]
+fn nothing_follows_a_line_that_the_sink_has_no_memory_for(rt: HostRuntime) -> Result<(), Fail> {
+    let mut words = Vec::new(rt.alloc());
+    words.push(String::from_str(rt.alloc(), "run")?)?;
+    let mut out = NoMemoryAt::new(rt.alloc(), 2);
+    let status = run(rt.alloc(), words.as_slice(), &mut out)?;
+    assert!(rt; status == Status::Memory);
+    assert_eq!(rt; out.sink.bytes.as_slice(), b"commit 1\n".as_slice());
+    assert_eq!(rt; out.writes, 2);
+    Ok(())
+}
+
+#[test]
+fn nothing_follows_the_line_of_a_status(rt: HostRuntime) -> Result<(), Fail> {
+    let mut failing = MemSink::failing(Vec::from_slice(rt.alloc(), &[1])?);
+    let status = run(rt.alloc(), &[], &mut failing)?;
+    assert!(rt; status == Status::WriteFault);
+    assert_eq!(rt; failing.bytes.as_slice(), b"usa".as_slice());
+    assert_eq!(rt; failing.calls, 1);
+    let mut full = NoMemoryAt::new(rt.alloc(), 1);
+    let status = run(rt.alloc(), &[], &mut full)?;
+    assert!(rt; status == Status::Memory);
+    assert!(rt; full.sink.bytes.is_empty());
+    assert_eq!(rt; full.writes, 1);
+    Ok(())
+}
+
+#[test]
+fn words_that_are_no_text_are_none(rt: HostRuntime) -> Result<(), Fail> {
+    let words = words_of(rt.alloc(), Err(Error::from(ErrorKind::InvalidData)))?;
+    assert!(rt; words.is_empty());
+    let none = words_of(rt.alloc(), Err(Error::from(ErrorKind::OutOfMemory)));
+    assert!(rt; none.is_err());
+    Ok(())
+}
