@@ -5,3 +5,12 @@ pub mod Parts
 pub mod Free
 pub mod Changes
 pub mod Told
+pub mod Placed
+pub mod PlacedObjects
+pub mod PlacedTicks
+pub mod PlacedCalls
+pub mod PlacedNotifications
+pub mod PlacedConnections
+pub mod PlacedInstructions
+pub mod PlacedLabels
+pub mod PlacedImages

@@ -14,4 +14,5 @@ pub mod Play
 pub mod MayStep
 pub mod Cost
 pub mod Initial
+pub mod Places
 pub mod Laws

@@ -4,6 +4,7 @@
 ghost use Rattle.std.specs.Prelude.{◌≡◌, ℕ, ◌<◌, List, [], length, Some, None};
 ghost use Rattle.sls_base.specs.declared.image.Image.{Image};
 ghost use Rattle.sls_base.specs.declared.thread.Thread.{Thread};
+ghost use Rattle.sls_base.specs.declared.thread.ThreadState.{ThreadState};
 ghost use Rattle.plain_model.specs.declared.calls.Call.{Call};
 ghost use Rattle.plain_model.specs.declared.calls.Refusal.{Refusal};
 ghost use Rattle.plain_model.specs.declared.label.Label.{Label};
@@ -17,7 +18,8 @@ ghost use Rattle.plain_model.specs.Refusals.{refusal_number};
 ghost use Rattle.plain_model.specs.Ticks.{Chosen, chosen, tick};
 ghost use Rattle.plain_model.specs.Sweep.{swept};
 ghost use Rattle.plain_model.specs.Play.{after, commit, cut, play, state_after_cut};
-ghost use Rattle.plain_model.specs.Initial.{first_world};
+ghost use Rattle.plain_model.specs.Places.{StandsIn, IsPlaced};
+ghost use Rattle.plain_model.specs.Initial.{initial, first_world};
 ghost use Rattle.plain_model.specs.Laws.{IsLeast, IsToldBySweep, IsFirstPart, IsInOrder, IsLeastFree, AreFreePages, ChangesOnly};
 
 /// What is reached is the least set that has the objects which are always there and is closed under the edges.
@@ -70,4 +72,13 @@ pub fn refused_call_answers_alone()
 pub fn tick_changes_what_it_names()
     ensures idle { (w : World) (core : ℕ) → chosen w.now core ≡ None → tick w core ≡ w }
     ensures only { (w : World) (core : ℕ) (c : Chosen) → chosen w.now core ≡ Some c → ChangesOnly w core c }
+{}
+
+/// In every state that a machine comes to, each thread stands in at most one place, and there once: the run queue, a core, a
+/// notification's list, a connection's list of clients, or a connection's place of the client that it serves.
+pub fn threads_stand_in_one_place()
+    ensures one { (s : State) (id : ℕ) (p q : ThreadState) → IsPlaced s → StandsIn s id p → StandsIn s id q → p ≡ q }
+    ensures first { (image : Image) (cores : ℕ) → IsPlaced (initial image cores) }
+    ensures kept { (w : World) (label : Label) → IsPlaced w.now → IsPlaced w.saved → IsPlaced (after w label).now × IsPlaced (after w label).saved }
+    ensures always { (image : Image) (cores : ℕ) (labels : List Label) → IsPlaced (play (first_world image cores) labels).now }
 {}
