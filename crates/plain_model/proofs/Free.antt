@@ -10,7 +10,7 @@ use Rattle.plain_model.specs.Objects.{Object, every_object, every_page}
 use Rattle.plain_model.specs.Worlds.{World, is_used_object, is_used_page, free_objects, free_pages, has_page}
 use Rattle.plain_model.specs.CallEffects.{new_id}
 use Rattle.plain_model.specs.Laws.{IsLeastFree, IsFreePage, AreFreePages}
-use Rattle.plain_model.proofs.Tests.{IsIn, here, there, in_range, range_in}
+use Rattle.plain_model.proofs.ListTests.{IsIn, here, there, in_range, range_in}
 
 -- the first number of a range that passes a test: it is in the range, it passes, and none below it does
 pub record IsFirst (p : ℕ → Bool) (from end first : ℕ) : Type 0 where

@@ -1,4 +1,4 @@
-pub mod Tests
+pub mod ListTests
 pub mod Reaches
 pub mod Sweeps
 pub mod Parts
@@ -14,3 +14,16 @@ pub mod PlacedConnections
 pub mod PlacedInstructions
 pub mod PlacedLabels
 pub mod PlacedImages
+pub mod SlowSweeps
+pub mod SlowLists
+pub mod SlowMemory
+pub mod SlowStates
+mod SlowValues
+pub mod SlowInitial
+mod SlowReaches
+pub mod SlowRefusals
+pub mod SlowSweepSteps
+pub mod SlowCosts
+pub mod SlowTicks
+pub mod SlowWorlds
+pub mod SlowImages

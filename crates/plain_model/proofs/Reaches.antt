@@ -11,7 +11,7 @@ use Rattle.plain_model.specs.Objects.{every_object}
 use Rattle.plain_model.specs.States.{State}
 use Rattle.plain_model.specs.Sweep.{leads_to, is_within, is_reached}
 use Rattle.plain_model.specs.Laws.{HasFixed, IsClosed, IsLeast}
-use Rattle.plain_model.proofs.Tests.{IsIn, here, there, or_left, or_right, or_cases, and_both, and_left, and_right, any_in, in_any, any_same, in_range, range_in}
+use Rattle.plain_model.proofs.ListTests.{IsIn, here, there, or_left, or_right, or_cases, and_both, and_left, and_right, any_in, in_any, any_same, in_range, range_in}
 
 -- whether an object leads to another that a path of at most n edges leads to
 abbrev pub step_from : State → ℕ → ℕ → ℕ → Bool

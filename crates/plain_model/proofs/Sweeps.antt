@@ -8,7 +8,7 @@ use Rattle.plain_model.specs.declared.objects.Occupant.{Occupant}
 use Rattle.plain_model.specs.Objects.{Object, Group, Thread, Space, Memory, Connection, Notification, OutputRing, InputRing, Scheduler, every_object}
 use Rattle.plain_model.specs.States.{State}
 use Rattle.plain_model.specs.Sweep.{leads_to, is_within, is_reached, swept, settled, settled_state, waits_for, is_lost, kept, kept_on_core, thread_on}
-use Rattle.plain_model.proofs.Tests.{any_same}
+use Rattle.plain_model.proofs.ListTests.{any_same}
 use Rattle.plain_model.proofs.Reaches.{step_from, within_suc, within_zero, within_up}
 
 -- the sweep leaves an object's edges as they are

@@ -11,7 +11,7 @@ use Rattle.plain_model.specs.Objects.{Object, Group, Thread, Space, Memory, Conn
 use Rattle.plain_model.specs.States.{State}
 use Rattle.plain_model.specs.Sweep.{is_reached, swept, settled, settled_state, waits_for, is_lost, kept, kept_on_core, thread_on, loses_any, is_settled_otherwise, is_swept_otherwise}
 use Rattle.plain_model.specs.Laws.{IsToldBySweep}
-use Rattle.plain_model.proofs.Tests.{or_cases}
+use Rattle.plain_model.proofs.ListTests.{or_cases}
 use Rattle.plain_model.proofs.Free.{or_false, none_from}
 
 -- Lists of threads.

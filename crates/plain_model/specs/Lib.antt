@@ -16,3 +16,10 @@ pub mod Cost
 pub mod Initial
 pub mod Places
 pub mod Laws
+pub mod InPages
+pub mod Slow
+pub mod SlowWorld
+pub mod SlowChosen
+pub mod SlowSweep
+pub mod SlowReach
+pub mod InitialParts

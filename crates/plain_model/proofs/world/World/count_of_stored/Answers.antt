@@ -1,0 +1,18 @@
+use Rattle.std.proofs.Common.{◌≡◌, ◌≤◌, subst, sym, ℕ, refl, rules, tests}
+use Rattle.std.proofs.lemmas.Iterator.{YieldsList-from_range}
+use Rattle.std.proofs.lemmas.Iterator.Consumers.{YieldsList-from_filter, count_from_yields_List}
+use Rattle.plain_model.specs.Cost as plain
+use Rattle.plain_model.specs.Objects.{every_page}
+use Rattle.plain_model.specs.SlowWorld.{world_of}
+use Rattle.plain_model.proofs.SlowCosts.{few_pages}
+use Rattle.plain_model.proofs.world.World.count_of_stored.Goals as goal
+
+pub returns : goal.returns
+unfolding every_page world_of
+returns c =
+    let counted : c.count.result ≡ plain.count_of every_page ((world_of c.args.self.now).stored) = count_from_yields_List _ c.count.result c.count.ensures.ran
+    (YieldsList-from_filter _ ((world_of c.args.self.now).stored) (YieldsList-from_range 0 512 512 (cc) refl) c.filter.ensures.closure (λ x b q k. search (rules, tests))) in
+    record {
+      count = counted;
+      few = subst (λ (n : ℕ). n ≤ 512) (sym counted) (few_pages ((world_of c.args.self.now).stored));
+    }
