@@ -37,3 +37,10 @@ pub use image::{PROGRAM_REGIONS, PROGRAM_THREADS, PROGRAMS, is_accepted};
 pub use label::{Label, Reply};
 pub use objects::{Capability, Kind, Occupant, Region};
 pub use world::World;
+
+#[cfg(test)]
+mod test_programs;
+#[cfg(test)]
+mod tests;
+#[cfg(test)]
+mod thread_tests;
