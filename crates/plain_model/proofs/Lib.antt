@@ -27,3 +27,11 @@ pub mod SlowCosts
 pub mod SlowTicks
 pub mod SlowWorlds
 pub mod SlowImages
+pub mod Present
+pub mod PresentTicks
+pub mod PresentCalls
+pub mod PresentNotifications
+pub mod PresentConnections
+pub mod PresentInstructions
+pub mod PresentLabels
+pub mod PresentImages

@@ -1,7 +1,8 @@
--- Where threads stand, and that each stands in one place at most.
-use Rattle.std.specs.Prelude.{◌≡◌, ℕ, ◌≤◌, ◌==◌, List, [], ◌∷◌, count_by, Option, Some, None, slice_index_or}
+-- Where threads stand: each in one place at most, and where its state says.
+use Rattle.std.specs.Prelude.{◌≡◌, ℕ, ◌≤◌, ◌==◌, Bool, true, false, List, [], ◌∷◌, count_by, Option, Some, None, slice_index_or}
+use Rattle.sls_base.specs.declared.limits.TheConstants.{CORE_SLICE}
 use Rattle.sls_base.specs.declared.thread.ThreadState.{ThreadState}
-use Rattle.sls_base.specs.declared.thread.ThreadState.TheVariants.{Ready, Running, Waiting, Calling, Served}
+use Rattle.sls_base.specs.declared.thread.ThreadState.TheVariants.{Ready, Running, Waiting, Calling, Served, Serving, Stopped}
 use Rattle.plain_model.specs.declared.objects.Occupant.{Occupant}
 use Rattle.plain_model.specs.Objects.{Object, Thread, Connection, Notification}
 use Rattle.plain_model.specs.States.{State}
@@ -53,3 +54,16 @@ StandsIn s id place = 1 ≤ times id (threads_in s place)
 pub record IsPlaced (s : State) : Type 0 where
   pub once : (place : ThreadState) (id : ℕ) → times id (threads_in s place) ≤ 1
   pub does : (place : ThreadState) (id : ℕ) → StandsIn s id place → state_of (s.objects id) ≡ Some place
+
+-- a state names a place
+abbrev pub names_place : ThreadState → Bool
+names_place (Serving id) = false
+names_place (Stopped cause) = false
+names_place state = true
+
+-- Each thread stands in the place that its state names. Who waits for clients is the server of a connection that serves nobody,
+-- and on which nobody waits. Who runs on a core has something left of its slice.
+pub record IsPresent (s : State) : Type 0 where
+  pub stands : (id : ℕ) (place : ThreadState) → state_of (s.objects id) ≡ Some place → names_place place ≡ true → StandsIn s id place
+  pub serves : (id connection : ℕ) → state_of (s.objects id) ≡ Some (Serving connection) → s.objects connection ≡ Some (Connection id None [])
+  pub slices : (core : ℕ) (occupant : Occupant) → slice_index_or s.cores core None ≡ Some occupant → (1 ≤ occupant.slice) × (occupant.slice ≤ CORE_SLICE)

@@ -18,7 +18,8 @@ ghost use Rattle.plain_model.specs.Refusals.{refusal_number};
 ghost use Rattle.plain_model.specs.Ticks.{Chosen, chosen, tick};
 ghost use Rattle.plain_model.specs.Sweep.{swept};
 ghost use Rattle.plain_model.specs.Play.{after, commit, cut, play, state_after_cut};
-ghost use Rattle.plain_model.specs.Places.{StandsIn, IsPlaced};
+ghost use Rattle.plain_model.specs.MayStep.{MayStep, MayPlay};
+ghost use Rattle.plain_model.specs.Places.{StandsIn, IsPlaced, IsPresent};
 ghost use Rattle.plain_model.specs.Initial.{initial, first_world};
 ghost use Rattle.plain_model.specs.Laws.{IsLeast, IsToldBySweep, IsFirstPart, IsInOrder, IsLeastFree, AreFreePages, ChangesOnly};
 
@@ -81,4 +82,14 @@ pub fn threads_stand_in_one_place()
     ensures first { (image : Image) (cores : ℕ) → IsPlaced (initial image cores) }
     ensures kept { (w : World) (label : Label) → IsPlaced w.now → IsPlaced w.saved → IsPlaced (after w label).now × IsPlaced (after w label).saved }
     ensures always { (image : Image) (cores : ℕ) (labels : List Label) → IsPlaced (play (first_world image cores) labels).now }
+{}
+
+/// In every state that a machine comes to by labels that may befall it, each thread stands where its state says, who waits for
+/// clients has a connection on which nobody waits, and who runs on a core has something left of its slice.
+pub fn threads_stand_where_they_say()
+    ensures first { (image : Image) (cores : ℕ) → IsPresent (initial image cores) }
+    ensures kept { (w : World) (label : Label) → MayStep w label → IsPlaced w.now → IsPlaced w.saved → IsPresent w.now → IsPresent w.saved
+        → IsPresent (after w label).now × IsPresent (after w label).saved }
+    ensures always { (image : Image) (cores : ℕ) (labels : List Label) → MayPlay (first_world image cores) labels
+        → IsPresent (play (first_world image cores) labels).now }
 {}
