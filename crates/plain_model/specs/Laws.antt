@@ -1,5 +1,5 @@
 -- Laws that show that the definitions are the right ones. Each is the contract of a function in `laws`.
-use Rattle.std.specs.Prelude.{◌≡◌, ◌≢◌, ℕ, ◌<◌, Bool, true, false, List, ◌++◌, All, AllPairs, Contains, Some, None, slice_index_or}
+use Rattle.std.specs.Prelude.{◌≡◌, ◌≢◌, ℕ, ◌<◌, ◌≤◌, Bool, true, false, List, ◌++◌, All, AllPairs, Contains, Some, None, slice_index_or}
 use Rattle.sls_base.specs.declared.limits.TheConstants.{OBJECTS, PAGES}
 use Rattle.sls_base.specs.declared.fixed.TheConstants.{FIRST_PROGRAM_OBJECT}
 use Rattle.plain_model.specs.Objects.{Scheduler}
@@ -63,6 +63,10 @@ pub record AreFreePages (w : World) : Type 0 where
   pub free : All (IsFreePage w) (free_pages w)
   pub rising : AllPairs (λ p q. p < q) (free_pages w)
   pub all : (page : ℕ) → page < PAGES → is_used_page w page ≡ false → Contains (free_pages w) page
+
+-- no object has a number that none can have
+abbrev pub AreInRange : State → Type 0
+AreInRange s = (i : ℕ) → OBJECTS ≤ i → s.objects i ≡ None
 
 -- Ticks.
 

@@ -15,6 +15,7 @@ pub mod MayStep
 pub mod Cost
 pub mod Initial
 pub mod Places
+pub mod Sound
 pub mod Laws
 pub mod InPages
 pub mod Slow

@@ -1,7 +1,8 @@
 //! Laws of the plain machine, which show that its definitions are the right ones. Each function does nothing: its contract is
 //! the law.
 
-ghost use Rattle.std.specs.Prelude.{◌≡◌, ℕ, ◌<◌, List, [], length, Some, None};
+ghost use Rattle.std.specs.Prelude.{◌≡◌, ℕ, ◌<◌, ◌≤◌, List, [], length, Some, None};
+ghost use Rattle.sls_base.specs.declared.limits.TheConstants.{OBJECTS};
 ghost use Rattle.sls_base.specs.declared.image.Image.{Image};
 ghost use Rattle.sls_base.specs.declared.thread.Thread.{Thread};
 ghost use Rattle.sls_base.specs.declared.thread.ThreadState.{ThreadState};
@@ -19,9 +20,10 @@ ghost use Rattle.plain_model.specs.Ticks.{Chosen, chosen, tick};
 ghost use Rattle.plain_model.specs.Sweep.{swept};
 ghost use Rattle.plain_model.specs.Play.{after, commit, cut, play, state_after_cut};
 ghost use Rattle.plain_model.specs.MayStep.{MayStep, MayPlay};
-ghost use Rattle.plain_model.specs.Places.{StandsIn, IsPlaced, IsPresent};
-ghost use Rattle.plain_model.specs.Initial.{initial, first_world};
-ghost use Rattle.plain_model.specs.Laws.{IsLeast, IsToldBySweep, IsFirstPart, IsInOrder, IsLeastFree, AreFreePages, ChangesOnly};
+ghost use Rattle.plain_model.specs.Places.{StandsIn, IsPlaced, IsPresent, threads_in};
+ghost use Rattle.plain_model.specs.Initial.{IsAccepted, initial, first_world};
+ghost use Rattle.plain_model.specs.Sound.{HaveForms, NameWhatIs, AreApart};
+ghost use Rattle.plain_model.specs.Laws.{IsLeast, IsToldBySweep, IsFirstPart, IsInOrder, IsLeastFree, AreFreePages, AreInRange, ChangesOnly};
 
 /// What is reached is the least set that has the objects which are always there and is closed under the edges.
 pub fn reached_is_least()
@@ -92,4 +94,38 @@ pub fn threads_stand_where_they_say()
         → IsPresent (after w label).now × IsPresent (after w label).saved }
     ensures always { (image : Image) (cores : ℕ) (labels : List Label) → MayPlay (first_world image cores) labels
         → IsPresent (play (first_world image cores) labels).now }
+{}
+
+/// In every state that a machine comes to, the numbers of objects are in range, so that no place has more threads than there are
+/// objects.
+pub fn numbers_stay_in_range()
+    ensures first { (image : Image) (cores : ℕ) → IsAccepted image → AreInRange (initial image cores) }
+    ensures kept { (w : World) (label : Label) → IsPlaced w.now → AreInRange w.now → AreInRange w.saved
+        → AreInRange (after w label).now × AreInRange (after w label).saved }
+    ensures always { (image : Image) (cores : ℕ) (labels : List Label) → IsAccepted image → AreInRange (play (first_world image cores) labels).now }
+    ensures room { (s : State) (place : ThreadState) → IsPlaced s → AreInRange s → length (threads_in s place) ≤ OBJECTS }
+{}
+
+/// In every state that a machine comes to, groups, spaces, memory objects and notifications have their forms.
+pub fn objects_keep_their_forms()
+    ensures first { (image : Image) (cores : ℕ) → IsAccepted image → HaveForms (initial image cores) }
+    ensures kept { (w : World) (label : Label) → HaveForms w.now → HaveForms w.saved → HaveForms (after w label).now × HaveForms (after w label).saved }
+    ensures always { (image : Image) (cores : ℕ) (labels : List Label) → IsAccepted image → HaveForms (play (first_world image cores) labels).now }
+{}
+
+/// In every state that a machine comes to, what objects name is there: capabilities, the group and the space of a thread, the pages
+/// of a region, and the server of a connection.
+pub fn what_is_named_is_there()
+    ensures first { (image : Image) (cores : ℕ) → NameWhatIs (initial image cores) }
+    ensures kept { (w : World) (label : Label) → IsPlaced w.now → AreInRange w.now → NameWhatIs w.now → NameWhatIs w.saved
+        → NameWhatIs (after w label).now × NameWhatIs (after w label).saved }
+    ensures always { (image : Image) (cores : ℕ) (labels : List Label) → IsAccepted image → NameWhatIs (play (first_world image cores) labels).now }
+{}
+
+/// In every state that a machine comes to, each page is of one object alone, and once there.
+pub fn pages_are_apart()
+    ensures first { (image : Image) (cores : ℕ) → IsAccepted image → AreApart (initial image cores) }
+    ensures kept { (w : World) (label : Label) → AreInRange w.now → AreApart w.now → AreApart w.saved
+        → AreApart (after w label).now × AreApart (after w label).saved }
+    ensures always { (image : Image) (cores : ℕ) (labels : List Label) → IsAccepted image → AreApart (play (first_world image cores) labels).now }
 {}
