@@ -17,9 +17,9 @@ use Rattle.plain_model.specs.Play.{play}
 use Rattle.plain_model.specs.Initial.{program_memories, program_thread, program_objects, programs_objects, program_size, program_pages, pages_taken, memory_of, page_of_content, image_objects, initial, first_world, IsAccepted}
 use Rattle.plain_model.specs.Sound.{AreApart}
 use Rattle.plain_model.proofs.Free.{range_rises}
-use Rattle.plain_model.proofs.SlowInitial.{objects_count}
 use Rattle.plain_model.proofs.Apart.{AreGood, good_apart, in_none, none_twice}
 use Rattle.plain_model.proofs.ApartLabels.{played_good}
+use Rattle.plain_model.proofs.InRangeLabels.{image_count}
 
 -- The page numbers of objects, in order.
 abbrev pub all_numbers : List Object → List ℕ
@@ -151,19 +151,6 @@ unfolding image_objects
 image_numbers ps =
     ap (λ (l : List ℕ). range_with_len 0 FIRST_PROGRAM_PAGE ++ l) (programs_numbers ps FIRST_PROGRAM_OBJECT FIRST_PROGRAM_PAGE)
     ∙ range_append 0 FIRST_PROGRAM_PAGE (sum_by program_pages ps)
-
-pub programs_count : (ps : List Program) (n k : ℕ) → length (programs_objects ps n k) ≡ sum_by program_size ps
-programs_count [] n k = refl
-programs_count (p ∷ ps) n k =
-    let a = length-append (program_objects p n k) (programs_objects ps (n + program_size p) (k + program_pages p)) in
-    let b = objects_count p n k in
-    let c = programs_count ps (n + program_size p) (k + program_pages p) in
-    a ∙ ap (λ (m : ℕ). m + length (programs_objects ps (n + program_size p) (k + program_pages p))) b ∙ ap (λ (m : ℕ). program_size p + m) c
-    ∙ sym (sum_by-cons program_size p ps)
-
-pub image_count : (ps : List Program) → length (image_objects ps) ≡ FIRST_PROGRAM_OBJECT + sum_by program_size ps
-unfolding image_objects
-image_count ps = (let e = programs_count ps FIRST_PROGRAM_OBJECT FIRST_PROGRAM_PAGE in omega arith)
 
 pub first_good : (image : Image) (cores : ℕ) → IsAccepted image → AreGood (initial image cores).objects
 first_good image cores h =

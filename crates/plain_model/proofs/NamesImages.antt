@@ -19,7 +19,7 @@ use Rattle.plain_model.specs.Play.{play}
 use Rattle.plain_model.specs.Initial.{slots_with, all_rights, if_set, program_caps, program_regions, region_over, page_of_content, program_memories, program_thread, program_objects, programs_objects, program_size, program_pages, pages_taken, memory_of, group_numbers, image_objects, initial, first_world}
 use Rattle.plain_model.specs.Laws.{AreInRange}
 use Rattle.plain_model.specs.Sound.{NamesObject, NamesPages, NamesWhatIs, NameWhatIs}
-use Rattle.plain_model.proofs.SlowInitial.{objects_count}
+use Rattle.plain_model.proofs.SlowInitial.{objects_count, memories_count}
 use Rattle.plain_model.proofs.PlacedImages.{first_placed}
 use Rattle.plain_model.proofs.NamesCalls.{inserted_names}
 use Rattle.plain_model.proofs.NamesLabels.{played_names}
@@ -127,10 +127,6 @@ program_regions_names s (spec ∷ specs) n k h =
 pub memories_name : (s : State) (specs : List RegionSpec) (k : ℕ) → AllName s (program_memories specs k)
 memories_name s [] k = tt
 memories_name s (spec ∷ specs) k = (tt, memories_name s specs (k + pages_taken spec))
-
-pub memories_count : (specs : List RegionSpec) (k : ℕ) → length (program_memories specs k) ≡ length specs
-memories_count [] k = refl
-memories_count (spec ∷ specs) k = (let e = memories_count specs (k + pages_taken spec) in omega arith)
 
 pub threads_name : (s : State) (p : Program) (n : ℕ) (js : List ℕ) → is_kind GroupKind (s.objects n) ≡ true → is_kind SpaceKind (s.objects (n + 1)) ≡ true → AllName s (map (program_thread p n) js)
 threads_name s p n [] group space = tt

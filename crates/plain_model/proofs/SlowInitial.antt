@@ -124,7 +124,7 @@ filter_left p n before after was left now = now ∙ was ∙ sym (filter_range_mo
 
 -- Objects of programs.
 
-memories_count : (specs : List RegionSpec) (k : ℕ) → length (program_memories specs k) ≡ length specs
+pub memories_count : (specs : List RegionSpec) (k : ℕ) → length (program_memories specs k) ≡ length specs
 memories_count [] k = refl
 memories_count (spec ∷ specs) k = let e = memories_count specs (k + pages_taken spec) in omega arith
 
