@@ -1,1 +1,3 @@
 pub mod Lcg
+pub mod Rights
+pub mod Counts

@@ -6,9 +6,11 @@ mod causes;
 mod entry;
 mod fixed;
 mod image;
+pub mod laws;
 mod lcg;
 mod limits;
 mod rights;
+mod texts;
 mod thread;
 
 pub use causes::{
@@ -21,11 +23,13 @@ pub use fixed::{
 pub use image::{Image, Program, RegionSpec};
 pub use lcg::Lcg;
 pub use limits::{
-    ADDRESS_PAGES, CORE_SLICE, CORES, ENTRY_BYTES, FRAME_WORDS, FRAMES, GROUP_SLOTS, LAST_VERSION,
-    LINE_WORDS, MEMORY_PAGES, OBJECTS, OUTPUT_CHANNELS, PAGE_BYTES, PAGE_WORDS, PAGES, REGISTERS,
-    RING_ENTRIES, SPACE_REGIONS, TABLE_WORDS, WAITING_INPUTS, WORDS,
+    ADDRESS_PAGES, ADDRESSES, CORE_SLICE, CORES, ENTRY_BYTES, FRAME_WORDS, FRAMES, GROUP_SLOTS,
+    INSTRUCTION_BYTES, LAST_VERSION, LINE_WORDS, MEMORY_PAGES, OBJECTS, OUTPUT_CHANNELS,
+    PAGE_BYTES, PAGE_WORDS, PAGES, REGISTERS, RING_ENTRIES, SPACE_REGIONS, TABLE_WORDS,
+    WAITING_INPUTS, WORDS,
 };
-pub use rights::{ALL_RIGHTS, EXECUTE, GRANT, READ, REGION_RIGHTS, WRITE};
+pub use rights::{ALL_RIGHTS, EXECUTE, GRANT, READ, REGION_RIGHTS, WRITE, has_rights};
+pub use texts::{PROGRAM_WORDS, TEXT_BYTES};
 pub use thread::{Ring, Thread, ThreadState, ThreadView};
 
 /// The number of an object.

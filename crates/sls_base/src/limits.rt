@@ -17,6 +17,8 @@ pub const CORES: usize = 8;
 pub const CORE_SLICE: u8 = 16;
 /// The registers of a thread.
 pub const REGISTERS: usize = 32;
+/// The bytes of an instruction, all of which have one word.
+pub const INSTRUCTION_BYTES: u32 = 4;
 /// The bytes of a page.
 pub const PAGE_BYTES: usize = 4_096;
 /// The words of a page, which are those of a frame.
@@ -42,7 +44,9 @@ pub const GROUP_SLOTS: usize = 32;
 pub const SPACE_REGIONS: usize = 16;
 /// The pages of a memory object.
 pub const MEMORY_PAGES: usize = 64;
-/// The pages of all addresses, which have 32 bits.
+/// The addresses that a program may name: those of 32 bits.
+pub const ADDRESSES: u64 = 1 << 32;
+/// The pages of all addresses.
 pub const ADDRESS_PAGES: u32 = 1_048_576;
 /// The inputs that may wait.
 pub const WAITING_INPUTS: usize = 64;
