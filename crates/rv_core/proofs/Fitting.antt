@@ -1,5 +1,5 @@
 -- What every plan keeps.
-use Rattle.std.proofs.Common.{◌≡◌, ℕ, ◌/◌, ◌%◌, ◌^◌, ◌<◌, ◌==◌, Bool, slice_index, pos, negsuc, ℤ, List, [], ◌∷◌, zero, suc, inl, inr, refl, arith}
+use Rattle.std.proofs.Common.{◌≡◌, ℕ, ◌/◌, ◌%◌, ◌^◌, ◌<◌, ◌==◌, Bool, pos, negsuc, ℤ, List, [], ◌∷◌, inl, inr, refl, arith}
 use Rattle.std.proofs.lemmas.Int.{ints}
 use Rattle.std.proofs.lemmas.Bool.{cond_both, eqb-true}
 use Rattle.std.proofs.lemmas.Nat.{xor_lt, or_lt, and_le_l}
@@ -8,8 +8,9 @@ use Rattle.std.specs.Int.{w32, cast_signed, cast_unsigned, int_shr}
 use Rattle.rv_table.specs.declared.Instr.{Instr}
 use Rattle.rv_table.specs.declared.Instr.TheVariants.{Lui, Auipc, Jal, Jalr, Branch, Load, Store, OpImm, Op, Fence, Ecall, Ebreak}
 use Rattle.rv_table.specs.Table.{IsInstr}
+use Rattle.rv_table.specs.Decoded.{entry_of}
 use Rattle.rv_core.specs.declared.registers.Regs.{Regs}
-use Rattle.rv_core.specs.Effect.{effect, register, plus, shifted_right_signed, flag, results, result_of, is_taken, size_of, jump}
+use Rattle.rv_core.specs.Effect.{effect, register, plus, shifted_right_signed, flag, results, second_results, result_of, is_taken, size_of, jump}
 use Rattle.rv_core.specs.Ranges.{AreRegs, IsPlan}
 
 below : (n d : ℕ) → n < 2 ^ 32 → n / d < 2 ^ 32
@@ -25,23 +26,24 @@ shifted_fits a b low = shr_fits (cast_signed w32 a) (b % 32) (λ n e. grind (ari
 flag_fits : (b : Bool) → flag b < 2 ^ 32
 flag_fits b = cond_both b 1 0 (λ n. n < 2 ^ 32) (λ _. omega arith) (λ _. omega arith)
 
-abbrev EachFits : List ℕ → Type 0
+abbrev EachFits : List (ℕ × ℕ) → Type 0
 EachFits [] = Unit {0}
-EachFits (x ∷ xs) = (x < 2 ^ 32) × EachFits xs
+EachFits (row ∷ rows) = (row.1 < 2 ^ 32) × EachFits rows
 
-index_fits : (xs : List ℕ) (i : ℕ) → EachFits xs → slice_index xs i < 2 ^ 32
-index_fits [] i h = omega arith
-index_fits (x ∷ xs) zero h = h.0
-index_fits (x ∷ xs) (suc i) h = index_fits xs i h.1
+entry_fits : (rows : List (ℕ × ℕ)) (key : ℕ) → EachFits rows → entry_of 0 rows key < 2 ^ 32
+entry_fits [] key h = omega arith
+entry_fits (row ∷ rows) key h = cond_both (key == row.0) _ _ (λ n. n < 2 ^ 32) (λ _. h.0) (λ _. entry_fits rows key h.1)
 
 results_fit : (a b : ℕ) → a < 2 ^ 32 → b < 2 ^ 32 → EachFits (results a b)
 results_fit a b a_fits b_fits =
     (omega arith, (omega arith, (flag_fits _, (flag_fits _, (xor_lt 32 a b a_fits b_fits, (below a _ a_fits, (or_lt 32 a b a_fits b_fits, (omega (arith, and_le_l a b), tt))))))))
 
+second_results_fit : (a b : ℕ) → a < 2 ^ 32 → EachFits (second_results a b)
+second_results_fit a b a_fits = (omega arith, (shifted_fits a b a_fits, tt))
+
 result_fits : (op a b : ℕ) (alt : Bool) → a < 2 ^ 32 → b < 2 ^ 32 → result_of op alt a b < 2 ^ 32
 result_fits op a b alt a_fits b_fits =
-    let P : ℕ → Type 0 = λ n. n < 2 ^ 32 in
-    cond_both alt _ _ P (λ _. cond_both (op == 0) _ _ P (λ _. omega arith) (λ _. shifted_fits a b a_fits)) (λ _. index_fits (results a b) op (results_fit a b a_fits b_fits))
+    cond_both alt _ _ (λ n. n < 2 ^ 32) (λ _. entry_fits (second_results a b) op (second_results_fit a b a_fits)) (λ _. entry_fits (results a b) op (results_fit a b a_fits b_fits))
 
 register_fits : (regs : Regs) (i : ℕ) → AreRegs regs → register regs i < 2 ^ 32
 register_fits regs i h = cond_both (i == 0) _ _ (λ n. n < 2 ^ 32) (λ _. omega arith) (λ _. h.each i)

@@ -3,6 +3,8 @@
 ghost use Rattle.std.specs.Prelude.{◌≡◌, ◌<◌};
 ghost use Rattle.rv_core.specs.Effect.{size_of, extended};
 
+use rv_table::funct3::{LB, LBU, LH, LHU};
+
 /// The bytes of a load or store: 1, 2 or 4.
 pub fn access_size(op: u8) -> u32
     ensures size { result ≡ size_of op }
@@ -17,10 +19,10 @@ pub fn extend(op: u8, raw: u32) -> u32
     ensures { result ≡ extended op raw }
 {
     match op {
-        0 => ((raw << 24).cast_signed() >> 24).cast_unsigned(),
-        1 => ((raw << 16).cast_signed() >> 16).cast_unsigned(),
-        4 => raw & 0xFF,
-        5 => raw & 0xFFFF,
+        LB => ((raw << 24).cast_signed() >> 24).cast_unsigned(),
+        LH => ((raw << 16).cast_signed() >> 16).cast_unsigned(),
+        LBU => raw & 0xFF,
+        LHU => raw & 0xFFFF,
         _ => raw,
     }
 }

@@ -18,20 +18,17 @@ mod registers;
 pub use access::{access_size, extend};
 use arithmetic::{operate, taken};
 pub use ranges::plans_in_range;
-pub use registers::{BREAKPOINT, MISALIGNED_ACCESS, MISALIGNED_TARGET, Plan, Regs};
+pub use registers::{Plan, Regs};
 use registers::{jump, set};
 use rv_table::Instr;
-
-/// The bytes of an instruction.
-const INSTRUCTION_BYTES: u32 = 4;
+use sls_base::{BREAKPOINT, INSTRUCTION_BYTES, MISALIGNED};
 
 /// What the instruction does, with these registers.
 pub fn plan(instr: Instr, regs: &Regs) -> Plan
     requires { IsInstr instr }
-    // It is the effect that the instruction's row has.
-    ensures told { result ≡ effect instr regs.now }
+    ensures effect { result ≡ effect instr regs.now }
     ensures in_range { IsPlan result }
-    ensures aligned { regs.now.pc % 4 ≡ 0 → GoesAligned result }
+    ensures aligned { regs.now.pc % INSTRUCTION_BYTES ≡ 0 → GoesAligned result }
 {
     let next = regs.pc.wrapping_add(INSTRUCTION_BYTES);
     match instr {
@@ -51,7 +48,7 @@ pub fn plan(instr: Instr, regs: &Regs) -> Plan
             if at % access_size(op) == 0 {
                 Plan::Load { op, rd, at }
             } else {
-                Plan::Stop(MISALIGNED_ACCESS)
+                Plan::Stop(MISALIGNED)
             }
         }
         Instr::Store { op, rs1, rs2, imm } => {
@@ -60,7 +57,7 @@ pub fn plan(instr: Instr, regs: &Regs) -> Plan
             if at % access_size(op) == 0 {
                 Plan::Store { op, at, value }
             } else {
-                Plan::Stop(MISALIGNED_ACCESS)
+                Plan::Stop(MISALIGNED)
             }
         }
         Instr::OpImm {

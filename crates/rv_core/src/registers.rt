@@ -4,14 +4,7 @@ ghost use Rattle.std.specs.Prelude.{◌≡◌, ◌<◌};
 ghost use Rattle.rv_core.specs.Effect;
 ghost use Rattle.rv_core.specs.declared.registers.Plan.TheVariants.{Set};
 
-use rv_table::REGISTERS;
-
-/// The cause of a jump or a taken branch to an address that isn't a multiple of 4.
-pub const MISALIGNED_TARGET: u8 = 2;
-/// The cause of a load or store at an address that isn't a multiple of its size.
-pub const MISALIGNED_ACCESS: u8 = 3;
-/// The cause of EBREAK.
-pub const BREAKPOINT: u8 = 5;
+use sls_base::{BAD_TARGET, INSTRUCTION_BYTES, REGISTERS};
 
 /// The program counter and the registers. Register 0 reads 0, whatever stands in `x[0]`.
 #[derive(Clone, Copy, PartialEq, Eq, Debug)]
@@ -70,13 +63,14 @@ pub fn set(rd: u8, value: u32, pc: u32) -> Plan
     Plan::Set { rd, value, pc }
 }
 
-/// A jump to a target, with the value for register `rd`; it writes none where the target isn't a multiple of 4.
+/// A jump to a target, with the value for register `rd`. At an address that isn't a multiple of 4 no instruction begins:
+/// a jump to it stops the thread and writes no register.
 pub fn jump(rd: u8, value: u32, target: u32) -> Plan
     ensures { result ≡ Effect.jump rd value target }
 {
-    if target % 4 == 0 {
+    if target % INSTRUCTION_BYTES == 0 {
         set(rd, value, target)
     } else {
-        Plan::Stop(MISALIGNED_TARGET)
+        Plan::Stop(BAD_TARGET)
     }
 }

@@ -2,11 +2,13 @@
 use Rattle.std.proofs.Common.{◌≡◌, ℕ, ◌<◌, ◌==◌, Bool, true, false, ◌&&◌, Option, Some, None, IfSome, cond, List, [], ◌∷◌, sym, ◌∙◌, ap, subst, inl, inr, ⊎_elim, refl, arith}
 use Rattle.std.proofs.lemmas.Bool.{or_cases, or_left, or_right, eqb-true, eq-eqb, and_parts, and_from, cond_both, cond-true, cond-false}
 use Rattle.std.proofs.lemmas.Bool.Decides.{nat_tests}
+use Rattle.rv_table.specs.declared.opcodes.TheConstants.{LUI, AUIPC, JAL, JALR, BRANCH, LOAD, STORE, OP_IMM, OP, MISC_MEM, SYSTEM, BASE, ALT, ECALL_WORD}
+use Rattle.rv_table.specs.declared.funct3.TheConstants.{SRA}
 use Rattle.rv_table.specs.declared.Instr.{Instr}
 use Rattle.rv_table.specs.declared.Instr.TheVariants.{Lui, Auipc, Jal, Jalr, Branch, Load, Store, OpImm, Op, Fence, Ecall, Ebreak}
 use Rattle.rv_table.specs.Word.{opcode, funct3, funct7}
 use Rattle.rv_table.specs.Table.{IsOneOf, branch_ops, load_ops, store_ops, plain_ops, shift_ops, alt_ops, IsRow, IsInstr}
-use Rattle.rv_table.specs.Decoded.{is_one_of, when, immediate_row, register_row, system_row, row_of, decoded}
+use Rattle.rv_table.specs.Decoded.{is_one_of, when, immediate_row, register_row, system_row, rows, entry_of, decoded}
 
 one_of_true : (n : ℕ) (ns : List ℕ) → IsOneOf n ns → is_one_of n ns ≡ true
 one_of_true n [] h = absurd h
@@ -32,38 +34,38 @@ plain_no_shift op (inr (inr h)) = elim h [ ]
 
 pub decoded-row : (w : ℕ) (i : Instr) → IsRow w i → decoded w ≡ Some i
 unfolding decoded
-decoded-row w (Lui d imm) h = ap (λ c. row_of c w) h.0 ∙ cc
-decoded-row w (Auipc d imm) h = ap (λ c. row_of c w) h.0 ∙ cc
-decoded-row w (Jal d imm) h = ap (λ c. row_of c w) h.0 ∙ cc
-decoded-row w (Jalr d a imm) h = ap (λ c. row_of c w) h.0 ∙ when_true _ _ (eq-eqb _ _ h.1) ∙ cc
+decoded-row w (Lui d imm) h = ap (entry_of None (rows w)) h.0 ∙ cc
+decoded-row w (Auipc d imm) h = ap (entry_of None (rows w)) h.0 ∙ cc
+decoded-row w (Jal d imm) h = ap (entry_of None (rows w)) h.0 ∙ cc
+decoded-row w (Jalr d a imm) h = ap (entry_of None (rows w)) h.0 ∙ when_true _ _ (eq-eqb _ _ h.1) ∙ cc
 decoded-row w (Branch op a b imm) h =
     let test = one_of_true op branch_ops h.2 in
-    ap (λ c. row_of c w) h.0 ∙ when_true _ _ (ap (λ n. is_one_of n branch_ops) (sym h.1) ∙ test) ∙ cc
+    ap (entry_of None (rows w)) h.0 ∙ when_true _ _ (ap (λ n. is_one_of n branch_ops) (sym h.1) ∙ test) ∙ cc
 decoded-row w (Load op d a imm) h =
     let test = one_of_true op load_ops h.2 in
-    ap (λ c. row_of c w) h.0 ∙ when_true _ _ (ap (λ n. is_one_of n load_ops) (sym h.1) ∙ test) ∙ cc
+    ap (entry_of None (rows w)) h.0 ∙ when_true _ _ (ap (λ n. is_one_of n load_ops) (sym h.1) ∙ test) ∙ cc
 decoded-row w (Store op a b imm) h =
     let test = one_of_true op store_ops h.2 in
-    ap (λ c. row_of c w) h.0 ∙ when_true _ _ (ap (λ n. is_one_of n store_ops) (sym h.1) ∙ test) ∙ cc
+    ap (entry_of None (rows w)) h.0 ∙ when_true _ _ (ap (λ n. is_one_of n store_ops) (sym h.1) ∙ test) ∙ cc
 decoded-row w (OpImm op alt d a imm) (code, op_is, d_is, a_is, inl h) =
     let test = one_of_true op plain_ops h.0 in
-    ap (λ c. row_of c w) code ∙ cond-true _ _ _ (ap (λ n. is_one_of n plain_ops) (sym op_is) ∙ test) ∙ cc
+    ap (entry_of None (rows w)) code ∙ cond-true _ _ _ (ap (λ n. is_one_of n plain_ops) (sym op_is) ∙ test) ∙ cc
 decoded-row w (OpImm op alt d a imm) (code, op_is, d_is, a_is, inr (inl h)) =
     let test = plain_no_shift op h.0 in
-    ap (λ c. row_of c w) code ∙ cond-false _ _ _ (ap (λ n. is_one_of n plain_ops) (sym op_is) ∙ test) ∙ cond-true _ _ _ (eq-eqb _ _ h.2) ∙ cc
+    ap (entry_of None (rows w)) code ∙ cond-false _ _ _ (ap (λ n. is_one_of n plain_ops) (sym op_is) ∙ test) ∙ cond-true _ _ _ (eq-eqb _ _ h.2) ∙ cc
 decoded-row w (OpImm op alt d a imm) (code, op_is, d_is, a_is, inr (inr h)) =
     let test = plain_no_shift op (inr (inl h.0)) in
-    let no : (funct7 w == 0) ≡ false = rw h.2 in
-    let yes : ((funct7 w == 0x20) && (funct3 w == 5)) ≡ true = and_from _ _ (eq-eqb _ _ h.2) (eq-eqb _ _ (sym op_is ∙ h.0)) in
-    ap (λ c. row_of c w) code ∙ cond-false _ _ _ (ap (λ n. is_one_of n plain_ops) (sym op_is) ∙ test) ∙ cond-false _ _ _ no ∙ when_true _ _ yes ∙ cc
+    let no : (funct7 w == BASE) ≡ false = rw h.2 in
+    let yes : ((funct7 w == ALT) && (funct3 w == SRA)) ≡ true = and_from _ _ (eq-eqb _ _ h.2) (eq-eqb _ _ (sym op_is ∙ h.0)) in
+    ap (entry_of None (rows w)) code ∙ cond-false _ _ _ (ap (λ n. is_one_of n plain_ops) (sym op_is) ∙ test) ∙ cond-false _ _ _ no ∙ when_true _ _ yes ∙ cc
 decoded-row w (Op op alt d a b) (code, op_is, d_is, a_is, b_is, inl h) =
-    ap (λ c. row_of c w) code ∙ cond-true _ _ _ (eq-eqb _ _ h.1) ∙ cc
+    ap (entry_of None (rows w)) code ∙ cond-true _ _ _ (eq-eqb _ _ h.1) ∙ cc
 decoded-row w (Op op alt d a b) (code, op_is, d_is, a_is, b_is, inr h) =
-    let no : (funct7 w == 0) ≡ false = rw h.1 in
-    let yes : ((funct7 w == 0x20) && is_one_of (funct3 w) alt_ops) ≡ true =
+    let no : (funct7 w == BASE) ≡ false = rw h.1 in
+    let yes : ((funct7 w == ALT) && is_one_of (funct3 w) alt_ops) ≡ true =
     and_from _ _ (eq-eqb _ _ h.1) (ap (λ n. is_one_of n alt_ops) (sym op_is) ∙ one_of_true op alt_ops h.2) in
-    ap (λ c. row_of c w) code ∙ cond-false _ _ _ no ∙ when_true _ _ yes ∙ cc
-decoded-row w Fence h = ap (λ c. row_of c w) h.0 ∙ when_true _ _ (eq-eqb _ _ h.1)
+    ap (entry_of None (rows w)) code ∙ cond-false _ _ _ no ∙ when_true _ _ yes ∙ cc
+decoded-row w Fence h = ap (entry_of None (rows w)) h.0 ∙ when_true _ _ (eq-eqb _ _ h.1)
 decoded-row w Ecall h = ap decoded h
 decoded-row w Ebreak h = ap decoded h
 
@@ -81,21 +83,21 @@ shift_not_plain op low h = grind (arith, nat_tests)
 
 system_found : (w : ℕ) → IfSome (system_row w) (IsRow w)
 system_found w =
-    cond_both (w == 0x73) _ _ (λ r. IfSome r (IsRow w)) (λ t. eqb-true _ _ t) (λ _. when_found (IsRow w) _ _ (λ t. eqb-true _ _ t))
+    cond_both (w == ECALL_WORD) _ _ (λ r. IfSome r (IsRow w)) (λ t. eqb-true _ _ t) (λ _. when_found (IsRow w) _ _ (λ t. eqb-true _ _ t))
 
-immediate_found : (w : ℕ) → opcode w ≡ 0x13 → IfSome (immediate_row w) (IsRow w)
+immediate_found : (w : ℕ) → opcode w ≡ OP_IMM → IfSome (immediate_row w) (IsRow w)
 immediate_found w code =
     let P : Option Instr → Type 0 = λ r. IfSome r (IsRow w) in
-    cond_both (is_one_of (funct3 w) plain_ops) _ _ P (λ t. (code, refl, refl, refl, inl (true_one_of (funct3 w) plain_ops t, refl, refl))) (λ f. cond_both (funct7 w == 0) _ _ P (λ z. (code, refl, refl, refl, inr (inl (shift_not_plain (funct3 w) (below_eight w) f, refl, eqb-true _ _ z, refl)))) (λ _. when_found (IsRow w) _ _ (λ t. (code, refl, refl, refl, inr (inr (eqb-true _ _ (and_parts _ _ t).1, refl, eqb-true _ _ (and_parts _ _ t).0, refl))))))
+    cond_both (is_one_of (funct3 w) plain_ops) _ _ P (λ t. (code, refl, refl, refl, inl (true_one_of (funct3 w) plain_ops t, refl, refl))) (λ f. cond_both (funct7 w == BASE) _ _ P (λ z. (code, refl, refl, refl, inr (inl (shift_not_plain (funct3 w) (below_eight w) f, refl, eqb-true _ _ z, refl)))) (λ _. when_found (IsRow w) _ _ (λ t. (code, refl, refl, refl, inr (inr (eqb-true _ _ (and_parts _ _ t).1, refl, eqb-true _ _ (and_parts _ _ t).0, refl))))))
 
-register_found : (w : ℕ) → opcode w ≡ 0x33 → IfSome (register_row w) (IsRow w)
+register_found : (w : ℕ) → opcode w ≡ OP → IfSome (register_row w) (IsRow w)
 register_found w code =
-    cond_both (funct7 w == 0) _ _ (λ r. IfSome r (IsRow w)) (λ z. (code, refl, refl, refl, refl, inl (refl, eqb-true _ _ z))) (λ _. when_found (IsRow w) _ _ (λ t. (code, refl, refl, refl, refl, inr (refl, eqb-true _ _ (and_parts _ _ t).0, true_one_of _ alt_ops (and_parts _ _ t).1))))
+    cond_both (funct7 w == BASE) _ _ (λ r. IfSome r (IsRow w)) (λ z. (code, refl, refl, refl, refl, inl (refl, eqb-true _ _ z))) (λ _. when_found (IsRow w) _ _ (λ t. (code, refl, refl, refl, refl, inr (refl, eqb-true _ _ (and_parts _ _ t).0, true_one_of _ alt_ops (and_parts _ _ t).1))))
 
-row_found : (w code : ℕ) → opcode w ≡ code → IfSome (row_of code w) (IsRow w)
+row_found : (w code : ℕ) → opcode w ≡ code → IfSome (entry_of None (rows w) code) (IsRow w)
 row_found w code is =
     let P = IsRow w in
-    behind P code 0x37 _ _ (λ e. (is ∙ e, refl, refl)) (behind P code 0x17 _ _ (λ e. (is ∙ e, refl, refl)) (behind P code 0x6F _ _ (λ e. (is ∙ e, refl, refl)) (behind P code 0x67 _ _ (λ e. when_found P _ _ (λ t. (is ∙ e, eqb-true _ _ t, refl, refl, refl))) (behind P code 0x63 _ _ (λ e. when_found P _ _ (λ t. (is ∙ e, refl, true_one_of _ branch_ops t, refl, refl, refl))) (behind P code 0x03 _ _ (λ e. when_found P _ _ (λ t. (is ∙ e, refl, true_one_of _ load_ops t, refl, refl, refl))) (behind P code 0x23 _ _ (λ e. when_found P _ _ (λ t. (is ∙ e, refl, true_one_of _ store_ops t, refl, refl, refl))) (behind P code 0x13 _ _ (λ e. immediate_found w (is ∙ e)) (behind P code 0x33 _ _ (λ e. register_found w (is ∙ e)) (behind P code 0x0F _ _ (λ e. when_found P _ _ (λ t. (is ∙ e, eqb-true _ _ t))) (behind P code 0x73 _ _ (λ e. system_found w) tt))))))))))
+    behind P code LUI _ _ (λ e. (is ∙ e, refl, refl)) (behind P code AUIPC _ _ (λ e. (is ∙ e, refl, refl)) (behind P code JAL _ _ (λ e. (is ∙ e, refl, refl)) (behind P code JALR _ _ (λ e. when_found P _ _ (λ t. (is ∙ e, eqb-true _ _ t, refl, refl, refl))) (behind P code BRANCH _ _ (λ e. when_found P _ _ (λ t. (is ∙ e, refl, true_one_of _ branch_ops t, refl, refl, refl))) (behind P code LOAD _ _ (λ e. when_found P _ _ (λ t. (is ∙ e, refl, true_one_of _ load_ops t, refl, refl, refl))) (behind P code STORE _ _ (λ e. when_found P _ _ (λ t. (is ∙ e, refl, true_one_of _ store_ops t, refl, refl, refl))) (behind P code OP_IMM _ _ (λ e. immediate_found w (is ∙ e)) (behind P code OP _ _ (λ e. register_found w (is ∙ e)) (behind P code MISC_MEM _ _ (λ e. when_found P _ _ (λ t. (is ∙ e, eqb-true _ _ t))) (behind P code SYSTEM _ _ (λ e. system_found w) tt))))))))))
 
 pub decoded-found : (w : ℕ) (i : Instr) → decoded w ≡ Some i → IsRow w i
 unfolding decoded

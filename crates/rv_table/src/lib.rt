@@ -7,21 +7,23 @@
 #![tactic(auto)]
 
 mod field;
-mod opcodes;
+pub mod funct3;
+mod laws;
+pub mod opcodes;
 mod reading;
-mod rows;
 mod writing;
 
+pub use laws::{funct3_numbers, one_row, opcode_numbers};
 pub use reading::decode;
-pub use rows::one_row;
 pub use sls_base::REGISTERS;
 pub use writing::encode;
 
 /// An instruction of the table.
 ///
-/// `op` is the field funct3, and `alt` says that funct7 is 0x20. `rd`, `rs1` and `rs2` are the numbers of registers, 0
-/// to 31. `imm` is the immediate as the instruction uses it: 32 bits that are sign-extended in the formats I, S, B and
-/// J, whose lower 12 bits are 0 in format U, and which are 0 to 31 where it is the amount of a shift.
+/// `op` is the field funct3, whose values are named in the module `funct3`, and `alt` says that funct7 is 0x20. `rd`,
+/// `rs1` and `rs2` are the numbers of registers, 0 to 31. `imm` is the immediate as the instruction uses it: 32 bits
+/// that are sign-extended in the formats I, S, B and J, whose lower 12 bits are 0 in format U, and which are 0 to 31
+/// where it is the amount of a shift.
 #[derive(Clone, Copy, PartialEq, Eq, Debug)]
 pub enum Instr {
     /// LUI.
@@ -45,28 +47,28 @@ pub enum Instr {
         rs1: u8,
         imm: u32,
     },
-    /// BEQ, BNE, BLT, BGE, BLTU, BGEU: `op` 0, 1, 4, 5, 6, 7.
+    /// BEQ, BNE, BLT, BGE, BLTU, BGEU.
     Branch {
         op: u8,
         rs1: u8,
         rs2: u8,
         imm: u32,
     },
-    /// LB, LH, LW, LBU, LHU: `op` 0, 1, 2, 4, 5.
+    /// LB, LH, LW, LBU, LHU.
     Load {
         op: u8,
         rd: u8,
         rs1: u8,
         imm: u32,
     },
-    /// SB, SH, SW: `op` 0, 1, 2.
+    /// SB, SH, SW.
     Store {
         op: u8,
         rs1: u8,
         rs2: u8,
         imm: u32,
     },
-    /// ADDI, SLLI, SLTI, SLTIU, XORI, SRLI, ORI, ANDI: `op` 0 to 7; with `alt` SRAI: `op` 5.
+    /// ADDI, SLLI, SLTI, SLTIU, XORI, SRLI, ORI, ANDI; with `alt` SRAI.
     OpImm {
         op: u8,
         alt: bool,
@@ -74,7 +76,7 @@ pub enum Instr {
         rs1: u8,
         imm: u32,
     },
-    /// ADD, SLL, SLT, SLTU, XOR, SRL, OR, AND: `op` 0 to 7; with `alt` SUB, SRA: `op` 0, 5.
+    /// ADD, SLL, SLT, SLTU, XOR, SRL, OR, AND; with `alt` SUB, SRA.
     Op {
         op: u8,
         alt: bool,

@@ -11,9 +11,13 @@ use crate::field::{
     funct3, funct7, immediate_b, immediate_i, immediate_j, immediate_s, immediate_u, opcode, rd,
     rs1, rs2,
 };
+use crate::funct3::{
+    BEQ, BGE, BGEU, BLT, BLTU, BNE, FENCE_FUNCT3, JALR_FUNCT3, LB, LBU, LH, LHU, LW, SB, SH, SLL,
+    SRA, SRL, SUB, SW,
+};
 use crate::opcodes::{
-    ALT, AUIPC, BRANCH, EBREAK_WORD, ECALL_WORD, JAL, JALR, LOAD, LUI, MISC_MEM, OP, OP_IMM, STORE,
-    SYSTEM,
+    ALT, AUIPC, BASE, BRANCH, EBREAK_WORD, ECALL_WORD, JAL, JALR, LOAD, LUI, MISC_MEM, OP, OP_IMM,
+    STORE, SYSTEM,
 };
 
 /// The instruction of a word. It is None exactly where the word is in no row of the table.
@@ -22,7 +26,7 @@ pub fn decode(word: u32) -> Option<Instr>
     ensures found { IfSome result (λ i. IsRow word i × IsInstr i) }
     // A word that is in a row is read.
     ensures only { (i : Instr) → IsRow word i → result ≡ Some i }
-    ensures told { result ≡ decoded word }
+    ensures decoded { result ≡ decoded word }
 {
     row(word)
 }
@@ -44,7 +48,7 @@ fn row(word: u32) -> Option<Instr>
             rd: rd(word),
             imm: immediate_j(word),
         }),
-        JALR if funct3(word) == 0 => {
+        JALR if funct3(word) == JALR_FUNCT3 => {
             Some(Instr::Jalr {
                 rd: rd(word),
                 rs1: rs1(word),
@@ -56,7 +60,7 @@ fn row(word: u32) -> Option<Instr>
         STORE => store(word),
         OP_IMM => op_imm(word),
         OP => register_op(word),
-        MISC_MEM if funct3(word) == 0 => Some(Instr::Fence),
+        MISC_MEM if funct3(word) == FENCE_FUNCT3 => Some(Instr::Fence),
         SYSTEM => system(word),
         _ => None,
     }
@@ -68,13 +72,13 @@ fn branch(word: u32) -> Option<Instr>
     ensures only { (i : Instr) → IsRow word i → result ≡ Some i }
 {
     match funct3(word) {
-        2 | 3 => None,
-        op => Some(Instr::Branch {
+        op @ (BEQ | BNE | BLT | BGE | BLTU | BGEU) => Some(Instr::Branch {
             op,
             rs1: rs1(word),
             rs2: rs2(word),
             imm: immediate_b(word),
         }),
+        _ => None,
     }
 }
 
@@ -84,13 +88,13 @@ fn load(word: u32) -> Option<Instr>
     ensures only { (i : Instr) → IsRow word i → result ≡ Some i }
 {
     match funct3(word) {
-        3 | 6 | 7 => None,
-        op => Some(Instr::Load {
+        op @ (LB | LH | LW | LBU | LHU) => Some(Instr::Load {
             op,
             rd: rd(word),
             rs1: rs1(word),
             imm: immediate_i(word),
         }),
+        _ => None,
     }
 }
 
@@ -99,16 +103,15 @@ fn store(word: u32) -> Option<Instr>
     ensures found { IfSome result (λ i. IsRow word i × IsInstr i) }
     ensures only { (i : Instr) → IsRow word i → result ≡ Some i }
 {
-    let op = funct3(word);
-    if op > 2 {
-        return None;
+    match funct3(word) {
+        op @ (SB | SH | SW) => Some(Instr::Store {
+            op,
+            rs1: rs1(word),
+            rs2: rs2(word),
+            imm: immediate_s(word),
+        }),
+        _ => None,
     }
-    Some(Instr::Store {
-        op,
-        rs1: rs1(word),
-        rs2: rs2(word),
-        imm: immediate_s(word),
-    })
 }
 
 fn op_imm(word: u32) -> Option<Instr>
@@ -118,9 +121,9 @@ fn op_imm(word: u32) -> Option<Instr>
 {
     let op = funct3(word);
     let (alt, imm) = match (op, funct7(word)) {
-        (1 | 5, 0) => (false, u32::from(rs2(word))),
-        (5, ALT) => (true, u32::from(rs2(word))),
-        (1 | 5, _) => return None,
+        (SLL | SRL, BASE) => (false, u32::from(rs2(word))),
+        (SRA, ALT) => (true, u32::from(rs2(word))),
+        (SLL | SRL, _) => return None,
         _ => (false, immediate_i(word)),
     };
     Some(Instr::OpImm {
@@ -138,9 +141,9 @@ fn register_op(word: u32) -> Option<Instr>
     ensures only { (i : Instr) → IsRow word i → result ≡ Some i }
 {
     let op = funct3(word);
-    let alt = match (funct7(word), op) {
-        (0, _) => false,
-        (ALT, 0 | 5) => true,
+    let alt = match (op, funct7(word)) {
+        (_, BASE) => false,
+        (SUB | SRA, ALT) => true,
         _ => return None,
     };
     Some(Instr::Op {

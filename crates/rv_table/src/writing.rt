@@ -9,9 +9,10 @@ ghost use Rattle.rv_table.specs.Decoded.{decoded};
 
 use crate::Instr;
 use crate::field::bits;
+use crate::funct3::JALR_FUNCT3;
 use crate::opcodes::{
-    ALT, AUIPC, BRANCH, EBREAK_WORD, ECALL_WORD, FENCE_WORD, JAL, JALR, LOAD, LUI, OP, OP_IMM,
-    STORE,
+    ALT, AUIPC, BASE, BRANCH, EBREAK_WORD, ECALL_WORD, FENCE_WORD, JAL, JALR, LOAD, LUI, OP,
+    OP_IMM, STORE,
 };
 
 /// The word of an instruction. FENCE gives the word with all other fields 0.
@@ -22,7 +23,7 @@ pub fn encode(instr: Instr) -> u32
     ensures read_back { decoded result ≡ Some instr }
     // No other word is in that row, so what is read is written again, but for FENCE.
     ensures only { (w : ℕ) → w < 2 ^ 32 → IsRow w instr → instr ≢ Fence → w ≡ result }
-    ensures fence { instr ≡ Fence → result ≡ 0x0000000F }
+    ensures fence { instr ≡ Fence → result ≡ FENCE_WORD }
 {
     word(instr)
 }
@@ -31,7 +32,7 @@ fn word(instr: Instr) -> u32
     requires { IsInstr instr }
     ensures row { IsRow result instr }
     ensures only { (w : ℕ) → w < 2 ^ 32 → IsRow w instr → instr ≢ Fence → w ≡ result }
-    ensures fence { instr ≡ Fence → result ≡ 0x0000000F }
+    ensures fence { instr ≡ Fence → result ≡ FENCE_WORD }
 {
     match instr {
         Instr::Lui { rd, imm } => u_word(LUI, rd, bits(imm, 31, 12)),
@@ -44,7 +45,7 @@ fn word(instr: Instr) -> u32
                 low | bits(imm, 10, 1) << 9 | bits(imm, 20, 20) << 19,
             )
         }
-        Instr::Jalr { rd, rs1, imm } => i_word(JALR, rd, 0, rs1, imm),
+        Instr::Jalr { rd, rs1, imm } => i_word(JALR, rd, JALR_FUNCT3, rs1, imm),
         Instr::Branch { op, rs1, rs2, imm } => {
             let low = bits(imm, 11, 11) | bits(imm, 4, 1) << 1;
             let high = bits(imm, 10, 5) | bits(imm, 12, 12) << 6;
@@ -73,7 +74,16 @@ fn word(instr: Instr) -> u32
             rd,
             rs1,
             rs2,
-        } => { word_of(OP, u32::from(rd), op, rs1, rs2, if alt { ALT } else { 0 }) }
+        } => {
+            word_of(
+                OP,
+                u32::from(rd),
+                op,
+                rs1,
+                rs2,
+                if alt { ALT } else { BASE },
+            )
+        }
         Instr::Fence => FENCE_WORD,
         Instr::Ecall => ECALL_WORD,
         Instr::Ebreak => EBREAK_WORD,

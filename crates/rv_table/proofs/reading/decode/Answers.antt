@@ -1,5 +1,5 @@
 use Rattle.rv_table.proofs.Decoded.{exact}
 use Rattle.rv_table.proofs.reading.decode.Goals as goal
 
-pub returns-clause-told : goal.returns-clause-told
-returns-clause-told c = exact c.args.word c.row.result c.row.ensures.found c.row.ensures.only
+pub returns-clause-decoded : goal.returns-clause-decoded
+returns-clause-decoded c = exact c.args.word c.row.result c.row.ensures.found c.row.ensures.only

@@ -1,6 +1,6 @@
 use Rattle.std.proofs.Common.{sym, ◌∙◌}
 use Rattle.rv_table.proofs.Decoded.{decoded-row, decoded-found, in_range}
-use Rattle.rv_table.proofs.rows.one_row.Goals as goal
+use Rattle.rv_table.proofs.laws.one_row.Goals as goal
 
 pub returns : goal.returns
 returns c = record {
