@@ -1,2 +1,1 @@
-pub mod RightsLemmas
 pub mod GroupLemmas

@@ -4,7 +4,7 @@ use Rattle.std.specs.Option.{option_and_then}
 use Rattle.sls_base.specs.declared.limits.TheConstants.{GROUP_SLOTS}
 use Rattle.cap_group.specs.declared.cap.Cap.{Cap}
 use Rattle.cap_group.specs.declared.group.Group.{Group}
-use Rattle.cap_group.specs.Rights.{IsCap}
+use Rattle.cap_group.specs.Cap.{IsCap}
 
 -- what a slot holds; behind the last slot there is nothing
 abbrev pub cap_at : Group → ℕ → Option Cap

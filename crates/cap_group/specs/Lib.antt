@@ -1,2 +1,2 @@
-pub mod Rights
+pub mod Cap
 pub mod Group

@@ -1,12 +1,13 @@
 //! Capabilities.
 
 ghost use Rattle.std.specs.Prelude.{◌≡◌, ◌↔◌, IsTrue};
-ghost use Rattle.cap_group.specs.Rights.{HasRights, has_rights};
+ghost use Rattle.sls_base.specs.Rights as sets;
+ghost use Rattle.sls_base.specs.Rights.{HasRights};
 
-use sls_base::ObjId;
+use sls_base::{ObjId, has_rights};
 
 /// A capability: an object, and what its holder may do with it. The rights are a set, each member a bit.
-#[derive(Clone, Copy, PartialEq, Eq, Debug, Default)]
+#[derive(Clone, Copy, PartialEq, Eq, Debug)]
 pub struct Cap {
     pub object: ObjId,
     pub rights: u8,
@@ -16,8 +17,8 @@ impl Cap {
     /// Whether it has every one of these rights.
     pub fn has(&self, rights: u8) -> bool
         ensures by_bits { IsTrue result ↔ HasRights self.now.rights rights }
-        ensures told { result ≡ has_rights self.now.rights rights }
+        ensures by_test { result ≡ sets.has_rights self.now.rights rights }
     {
-        self.rights & rights == rights
+        has_rights(self.rights, rights)
     }
 }

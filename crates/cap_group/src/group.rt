@@ -6,13 +6,13 @@ use crate::Cap;
 use sls_base::GROUP_SLOTS;
 
 /// A group: slots, each of which is empty or holds a capability.
-#[derive(Clone, Copy, PartialEq, Eq, Debug, Default)]
+#[derive(Clone, Copy)]
 pub struct Group {
     pub slots: [Option<Cap>; GROUP_SLOTS],
 }
 
 impl Group {
-    ghost use Rattle.cap_group.specs.Rights.{IsCap};
+    ghost use Rattle.cap_group.specs.Cap.{IsCap};
     ghost use Rattle.cap_group.specs.Group.{cap_at, IsGroup, IsFull, IsLowestFree, ChangesSlot};
 
     /// A group whose slots are all empty.
@@ -38,7 +38,7 @@ impl Group {
     pub fn lowest_free(&self) -> Option<u8>
         ensures lowest { IfSome result (IsLowestFree self.now) }
         ensures full { IsNone result ↔ IsFull self.now }
-        ensures told { result ≡ position is_none self.now.slots }
+        ensures first_free { result ≡ position is_none self.now.slots }
     {
         for (slot, held) in self.slots.iter().enumerate() {
             if held.is_none() {

@@ -7,7 +7,7 @@ mod laws;
 
 pub use cap::Cap;
 pub use group::Group;
-pub use laws::{one_lowest_free, rights_by_bits};
+pub use laws::one_lowest_free;
 
 #[cfg(test)]
 mod tests;

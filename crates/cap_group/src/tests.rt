@@ -75,8 +75,3 @@ fn a_capability_has_each_right_that_it_was_given(rt: HostRuntime) {
         assert_eq!(rt; cap.has(wanted), want, "{wanted} of {rights}");
     }
 }
-
-#[test]
-fn a_default_group_is_an_empty_one(rt: HostRuntime) {
-    assert_eq!(rt; Group::default(), Group::new());
-}

@@ -1,3 +1,5 @@
-pub mod RightsLemmas
 pub mod FilterLemmas
+pub mod FindLemmas
+pub mod RegionTests
 pub mod SpaceLemmas
+pub mod Translation

@@ -1,5 +1,5 @@
 -- The regions of a space as a list.
-use Rattle.std.proofs.Common.{◌≡◌, ◌≢◌, ◌⊎◌, ℕ, ◌+◌, ◌/◌, ◌<◌, ◌≤◌, ◌↔◌, Bool, true, false, not, Option, Some, List, [], ◌∷◌, ◌++◌, length, get_or, take, drop, filter, All, Any, Contains, AllPairs, nat_lt, ltb, refl, sym, ap, ◌∙◌, subst, inl, inr, arith}
+use Rattle.std.proofs.Common.{◌≡◌, ◌≢◌, ◌⊎◌, ℕ, ◌+◌, ◌<◌, ◌≤◌, ◌↔◌, Bool, true, false, not, List, [], ◌∷◌, ◌++◌, length, get_or, take, drop, filter, All, Any, Contains, AllPairs, nat_lt, ltb, refl, sym, ap, ◌∙◌, subst, inl, inr, arith}
 use Rattle.std.specs.Prelude.{◌==◌}
 use Rattle.std.specs.List.{insert, AllWithin}
 use Rattle.std.proofs.lemmas.Bool.{cases_lt, cases_order, ltb-true, ltb-false, lt-ltb, le-ltb, eqb-true, eq-eqb, ne_eqb, not-true, false≢true}
@@ -7,12 +7,11 @@ use Rattle.std.proofs.lemmas.List.{get_or_default}
 use Rattle.std.proofs.lemmas.List.Elements.{All-cons, All-append, All-filter, All-contains, Contains-append_cases, Contains-append_left, Contains-append_right}
 use Rattle.std.proofs.lemmas.List.Kept.{AllPairs-cons, AllPairs-filter}
 use Rattle.std.specs.List.Sorted.{IsNonDecreasingBy}
-use Rattle.sls_base.specs.declared.limits.TheConstants.{PAGE_BYTES}
 use Rattle.mem_space.proofs.FilterLemmas.{filter-both, filter-front, filter-back, AllPairs-append, filter-kept, shorter_any, any_shorter, contained_before, contained_passes, contained_after, only_one}
 use Rattle.mem_space.specs.declared.region.Region.{Region}
 use Rattle.mem_space.specs.declared.space.Space.{Space}
-use Rattle.mem_space.specs.Region.{IsRegion, HasPage, SharesPages, IsApart, index_at}
-use Rattle.mem_space.specs.Space.{IsSpace, TranslatesTo, with_region, without_base}
+use Rattle.mem_space.specs.Region.{IsRegion, HasPage, SharesPages, IsApart}
+use Rattle.mem_space.specs.Space.{IsSpace, with_region, without_base}
 
 -- A page is one region's at most.
 pub one_region : (space : Space) (page : ℕ) (a b : Region) → IsSpace space
@@ -199,26 +198,3 @@ space_without old new base same is =
       rising = subst (AllPairs (λ a b. a.base < b.base)) (sym same) (AllPairs-filter (λ a b. a.base < b.base) p old.regions.items is.rising);
       apart = subst (AllPairs IsApart) (sym same) (AllPairs-filter IsApart p old.regions.items is.apart);
     }
-
--- What an address translates to is what a region of the space that has its page says.
-pub translates_one : (space : Space) (at right : ℕ) (region : Region) → IsSpace space → Contains space.regions.items region → HasPage region (at / PAGE_BYTES)
-    → (object index : ℕ) → TranslatesTo space at right object index → (region.memory ≡ object) × (index_at region at ≡ index)
-translates_one space at right region is here has object index t =
-    let same : region ≡ t.region = one_region space (at / PAGE_BYTES) region t.region is here t.mapped has t.covers in
-    (ap (λ r. r.memory) same ∙ sym t.object_is, ap (λ r. index_at r at) same ∙ sym t.index_is)
-
--- the same of the region at a place of the list, as what a search gives
-pub translation_at : (space : Space) (at right : ℕ) (xs : List Region) (k : ℕ) (d : Region) → xs ≡ space.regions.items → IsSpace space → k < length xs → HasPage (get_or xs k d) (at / PAGE_BYTES)
-    → (object index : ℕ) → TranslatesTo space at right object index → ◌≡◌ {A = Option (ℕ × ℕ)} (Some ((get_or xs k d).memory, index_at (get_or xs k d) at)) (Some (object, index))
-translation_at space at right xs k d shown is inside has object index t =
-    let region = get_or xs k d in
-    let here : Contains space.regions.items region = subst (λ ys. Contains ys region) shown (k, inside, get_or_default xs k region d inside) in
-    let same = translates_one space at right region is here has object index t in
-    cc
-
--- An address translates to one place at most.
-pub one_place : (space : Space) (at right object index object' index' : ℕ) → IsSpace space
-    → TranslatesTo space at right object index → TranslatesTo space at right object' index' → (object ≡ object') × (index ≡ index')
-one_place space at right object index object' index' is t u =
-    let same = translates_one space at right t.region is t.mapped t.covers object' index' u in
-    (t.object_is ∙ same.0, t.index_is ∙ same.1)

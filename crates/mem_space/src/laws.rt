@@ -1,12 +1,14 @@
 //! Laws. Each of these functions does nothing: its contract is the law.
 
-ghost use Rattle.std.specs.Prelude.{◌≡◌, ℕ, Contains};
+ghost use Rattle.std.specs.Prelude.{◌≡◌, ◌↔◌, ℕ, Contains, IsTrue, Some};
+ghost use Rattle.sls_base.specs.Rights.{HasRights};
 ghost use Rattle.mem_space.specs.declared.region.Region.{Region};
 ghost use Rattle.mem_space.specs.declared.space.Space.{Space};
-ghost use Rattle.mem_space.specs.Region.{HasPage};
-ghost use Rattle.mem_space.specs.Space.{IsSpace, TranslatesTo};
+ghost use Rattle.mem_space.specs.Region.{HasPage, Covers, SharesPages, covers_with, shares_pages};
+ghost use Rattle.mem_space.specs.Space.{IsSpace, TranslatesTo, translation};
 
-/// A space has one region at most that has a page, so an address translates to one place at most.
+/// A space has one region at most that has a page, so an address translates to one place at most: to that in the first
+/// region that fits.
 pub fn one_region()
     ensures region { (space : Space) (page : ℕ) (a b : Region) → IsSpace space
         → Contains space.regions.items a → Contains space.regions.items b
@@ -14,4 +16,14 @@ pub fn one_region()
     ensures place { (space : Space) (at right object index object' index' : ℕ) → IsSpace space
         → TranslatesTo space at right object index → TranslatesTo space at right object' index'
         → (object ≡ object') × (index ≡ index') }
+    ensures first { (space : Space) (at right object index : ℕ) → IsSpace space
+        → (translation space.regions.items at right ≡ Some (object, index)) ↔ TranslatesTo space at right object index }
+{}
+
+/// What the tests on a region say.
+pub fn region_tests()
+    ensures covers { (region : Region) (at right : ℕ)
+        → IsTrue (covers_with at right region) ↔ (Covers region at × HasRights region.rights right) }
+    ensures shares { (region : Region) (base count : ℕ)
+        → IsTrue (shares_pages base count region) ↔ SharesPages region base count }
 {}

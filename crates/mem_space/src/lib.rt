@@ -1,4 +1,5 @@
-//! Spaces and memory objects: which pages a program has, where they stand among its addresses, and what it may do there.
+//! Spaces and memory objects: which pages a program has, where they stand among its addresses, and what it may do
+//! there.
 #![tactic(auto)]
 
 mod laws;
@@ -6,7 +7,7 @@ mod memory;
 mod region;
 mod space;
 
-pub use laws::one_region;
+pub use laws::{one_region, region_tests};
 pub use memory::{MemPage, Memory};
 pub use region::Region;
 pub use space::Space;

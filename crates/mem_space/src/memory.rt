@@ -9,14 +9,14 @@ use sls_base::{MEMORY_PAGES, PageNo};
 
 /// A page of a memory object: its number, and whether it is fresh, which is to say that nothing was ever stored to it,
 /// so that it reads as zero.
-#[derive(Clone, Copy, PartialEq, Eq, Debug, Default)]
+#[derive(Clone, Copy, Default)]
 pub struct MemPage {
     pub page: PageNo,
     pub fresh: bool,
 }
 
 /// A memory object: its pages, each at its index.
-#[derive(PartialEq, Eq, Debug, Default, Drop)]
+#[derive(Drop)]
 pub struct Memory {
     pub pages: ArrayVec<MemPage, MEMORY_PAGES>,
 }

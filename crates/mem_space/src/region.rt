@@ -1,14 +1,14 @@
 //! Regions.
 
-ghost use Rattle.std.specs.Prelude.{◌≡◌, ◌+◌, ◌-◌, ◌^◌, ◌<◌, ◌≤◌, ◌↔◌, IsTrue};
-ghost use Rattle.mem_space.specs.Region.{HasPage, SharesPages, Allows};
+ghost use Rattle.std.specs.Prelude.{◌≡◌, ◌+◌, ◌-◌, ◌^◌, ◌<◌, ◌≤◌};
+ghost use Rattle.mem_space.specs.Region as regions;
 
 use crate::PageIndex;
-use sls_base::ObjId;
+use sls_base::{ObjId, PAGE_BYTES, has_rights};
 
 /// Pages of a memory object at addresses of a space: `count` pages of the object `memory`, of which the first has the
 /// index `first`, stand from page `base` of the addresses on. Address 4096 is page 1. The rights are a set.
-#[derive(Clone, Copy, PartialEq, Eq, Debug, Default)]
+#[derive(Clone, Copy, Default)]
 pub struct Region {
     pub base: u32,
     pub count: PageIndex,
@@ -18,26 +18,26 @@ pub struct Region {
 }
 
 impl Region {
-    /// Whether a page of the addresses is one of its pages.
-    pub(crate) fn has_page(&self, page: u32) -> bool
-        ensures { IsTrue result ↔ HasPage self.now page }
+    /// Whether it covers a byte address and has every one of these rights.
+    pub(crate) fn covers_with(&self, at: u32, right: u8) -> bool
+        ensures { result ≡ regions.covers_with at right self.now }
     {
-        self.base <= page && page - self.base < u32::from(self.count)
+        self.has_page(at / PAGE_BYTES as u32) && has_rights(self.rights, right)
     }
 
     /// Whether one of its pages is among the `count` from `base` on.
     pub(crate) fn shares_pages(&self, base: u32, count: PageIndex) -> bool
-        ensures { IsTrue result ↔ SharesPages self.now base count }
+        ensures { result ≡ regions.shares_pages base count self.now }
     {
         let start = self.base.max(base);
         u64::from(start) < self.end().min(u64::from(base) + u64::from(count))
     }
 
-    /// Whether it has every one of these rights.
-    pub(crate) fn allows(&self, right: u8) -> bool
-        ensures { IsTrue result ↔ Allows self.now right }
+    /// Whether a page of the addresses is one of its pages.
+    fn has_page(&self, page: u32) -> bool
+        ensures { result ≡ regions.has_page page self.now }
     {
-        self.rights & right == right
+        self.base <= page && u64::from(page) < self.end()
     }
 
     /// The page behind its last one.

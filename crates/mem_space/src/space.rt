@@ -1,23 +1,24 @@
 //! Spaces.
 
-ghost use Rattle.std.specs.Prelude.{◌≡◌, ◌≢◌, ℕ, ◌<◌, ◌≤◌, ◌↔◌, ◌⊎◌, false, IsTrue, IfSome, [], Any, Contains};
-ghost use Rattle.sls_base.specs.declared.limits.TheConstants.{MEMORY_PAGES};
+ghost use Rattle.std.specs.Prelude.{◌≡◌, ◌≢◌, ℕ, ◌<◌, ◌≤◌, ◌↔◌, ◌⊎◌, false, IsTrue, IfSome, [], Any, Contains, find};
+ghost use Rattle.std.specs.List.{list_any};
+ghost use Rattle.sls_base.specs.declared.limits.TheConstants.{MEMORY_PAGES, OBJECTS};
 ghost use Rattle.arrayvec.specs.ArrayVec.{array_vec_len};
-ghost use Rattle.mem_space.specs.Region.{IsRegion};
+ghost use Rattle.mem_space.specs.Region.{IsRegion, covers_with, shares_pages};
 
 use crate::{PageIndex, Region};
 use arrayvec::ArrayVec;
 use sls_base::{ObjId, PAGE_BYTES, SPACE_REGIONS};
 
 /// A space: the regions that a program can reach, by rising base, no two with a page in common.
-#[derive(PartialEq, Eq, Debug, Default, Drop)]
+#[derive(Drop)]
 pub struct Space {
     pub regions: ArrayVec<Region, SPACE_REGIONS>,
 }
 
 impl Space {
     ghost use Rattle.mem_space.specs.declared.region.Region.{Region};
-    ghost use Rattle.mem_space.specs.Space.{IsSpace, Overlaps, TranslatesTo, with_region, without_base};
+    ghost use Rattle.mem_space.specs.Space.{IsSpace, Overlaps, TranslatesTo, translation, with_region, without_base};
 
     /// A space without regions.
     pub fn new() -> Space
@@ -42,14 +43,25 @@ impl Space {
     pub fn translate(&self, at: u32, right: u8) -> Option<(ObjId, PageIndex)>
         requires { IsSpace self.now }
         ensures found { IfSome result (λ place. TranslatesTo self.now at right place.0 place.1) }
-        ensures only { (object index : ℕ) → TranslatesTo self.now at right object index → result ≡ Some (object, index) }
+        ensures only { (object index : ℕ) → TranslatesTo self.now at right object index
+            → result ≡ Some (object, index) }
+        ensures first_region { result ≡ translation self.now.regions.items at right }
+        ensures known_memory { IfSome result (λ place. place.0 < OBJECTS) }
         ensures in_memory { IfSome result (λ place. place.1 < MEMORY_PAGES) }
     {
+        let region = self.covering(at, right)?;
         let page = at / PAGE_BYTES as u32;
+        let index = region.first + (page - region.base) as PageIndex;
+        Some((region.memory, index))
+    }
+
+    /// The first region that covers a byte address and has every one of these rights.
+    fn covering(&self, at: u32, right: u8) -> Option<Region>
+        ensures { result ≡ find (covers_with at right) self.now.regions.items }
+    {
         for region in self.regions.iter() {
-            if region.has_page(page) && region.allows(right) {
-                let index = region.first + (page - region.base) as PageIndex;
-                return Some((region.memory, index));
+            if region.covers_with(at, right) {
+                return Some(*region);
             }
         }
         None
@@ -57,11 +69,15 @@ impl Space {
 
     /// Whether a region has one of the `count` pages of addresses from page `base` on.
     pub fn overlaps(&self, base: u32, count: PageIndex) -> bool
-        ensures { IsTrue result ↔ Overlaps self.now base count }
+        ensures pages { IsTrue result ↔ Overlaps self.now base count }
+        ensures by_test { result ≡ list_any (shares_pages base count) self.now.regions.items }
     {
-        self.regions
-            .iter()
-            .any(|region| region.shares_pages(base, count))
+        for region in self.regions.iter() {
+            if region.shares_pages(base, count) {
+                return true;
+            }
+        }
+        false
     }
 
     /// Adds a region.

@@ -4,8 +4,8 @@ use Rattle.cap_group.specs.Group.{cap_at, IsLowestFree, IsFull}
 use Rattle.cap_group.proofs.GroupLemmas.{position-lowest, position-full, cap_at-taken, cap_at-empty}
 use Rattle.cap_group.proofs.group.Group.lowest_free.Goals as goal
 
-pub returns-then-is_none-clause-told : goal.returns-then-is_none-clause-told
-returns-then-is_none-clause-told c =
+pub returns-then-is_none-clause-first_free : goal.returns-then-is_none-clause-first_free
+returns-then-is_none-clause-first_free c =
     let all : length c.args.self.now.slots ≡ GROUP_SLOTS = omega arith in
     let lowest : IsLowestFree c.args.self.now c.loop-slot.slot = record {
       there = c.loop-slot-test.true;
@@ -18,7 +18,7 @@ pub loop-slot-preserved : goal.loop-slot-preserved
 loop-slot-preserved c =
     below_more (λ k. IsSome (cap_at c.args.self.now k)) _ c.loop-slot.invariant (cap_at-taken c.args.self.now _ (omega arith) c.if-is_none.ensures)
 
-pub returns-clause-told : goal.returns-clause-told
-returns-clause-told c =
+pub returns-clause-first_free : goal.returns-clause-first_free
+returns-clause-first_free c =
     let full : IsFull c.args.self.now = λ k below. c.loop-slot.invariant k (omega arith) in
     sym (position-full c.args.self.now (omega arith) full)

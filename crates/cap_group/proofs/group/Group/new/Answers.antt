@@ -3,7 +3,7 @@ use Rattle.std.specs.Prelude.{slice_get}
 use Rattle.std.specs.Option.{option_and_then}
 use Rattle.sls_base.specs.declared.limits.TheConstants.{GROUP_SLOTS}
 use Rattle.cap_group.specs.declared.cap.Cap.{Cap}
-use Rattle.cap_group.specs.Rights.{IsCap}
+use Rattle.cap_group.specs.Cap.{IsCap}
 use Rattle.cap_group.proofs.group.Group.new.Goals as goal
 
 -- empty slots hold nothing

@@ -1,0 +1,8 @@
+use Rattle.mem_space.proofs.RegionTests.{covers_by_test, shares_by_test}
+use Rattle.mem_space.proofs.laws.region_tests.Goals as goal
+
+pub returns-clause-covers : goal.returns-clause-covers
+returns-clause-covers c = covers_by_test
+
+pub returns-clause-shares : goal.returns-clause-shares
+returns-clause-shares c = shares_by_test
