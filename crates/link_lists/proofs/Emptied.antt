@@ -3,11 +3,11 @@ use Rattle.std.proofs.Common.{◌≡◌, ℕ, List, [], replicate, eqb, ap, sym,
 use Rattle.std.proofs.lemmas.Bool.{cases_lt}
 use Rattle.std.proofs.lemmas.List.{get_or_past, get_or-replicate, length-replicate}
 use Rattle.std.specs.List.{Contains, IsDistinct}
-use Rattle.link_lists.specs.declared.rings.Place.{Place}
-use Rattle.link_lists.specs.declared.rings.Place.TheVariants.{Node, End}
+use Rattle.link_lists.specs.declared.rings.RingPlace.{RingPlace}
+use Rattle.link_lists.specs.declared.rings.RingPlace.TheVariants.{Node, End}
 use Rattle.link_lists.specs.declared.rings.Rings.{Rings}
 use Rattle.link_lists.specs.Lists.{list_at, IsLinks}
-use Rattle.link_lists.specs.Rings.{IsPlace, Chain, StandsFor, neighbours, lists_of}
+use Rattle.link_lists.specs.Rings.{IsRingPlace, Chain, StandsFor, neighbours, lists_of}
 use Rattle.link_lists.proofs.Members.{not_in_nil, distinct_nil}
 use Rattle.link_lists.proofs.Stands.{lists_of-stands, stands_shown}
 
@@ -35,7 +35,7 @@ pub record Empties {N L : ℕ} (r : Rings N L) : Type 0 where
   pub stands : StandsFor r (lists_of r)
   pub empty : (i : ℕ) → list_at (lists_of r) i ≡ []
 
-pub empties : {N L : ℕ} (r : Rings N L) → ((p : Place) → IsPlace N L p → neighbours r p ≡ record { before = p; after = p }) → Empties r
+pub empties : {N L : ℕ} (r : Rings N L) → ((p : RingPlace) → IsRingPlace N L p → neighbours r p ≡ record { before = p; after = p }) → Empties r
 empties {N} {L} r alone =
     let s : StandsFor r (replicate L []) =
     record {

@@ -3,7 +3,7 @@ use Rattle.std.proofs.Common.{◌≡◌, ◌≢◌, ◌↔◌, ℕ, ◌<◌, Lis
 use Rattle.std.proofs.lemmas.Bool.{cases_eq}
 use Rattle.std.proofs.lemmas.List.Elements.{Contains-push_cases, Contains-append_left, Contains-push}
 use Rattle.std.specs.List.{Contains}
-use Rattle.link_lists.specs.declared.rings.Place.TheVariants.{Node, End}
+use Rattle.link_lists.specs.declared.rings.RingPlace.TheVariants.{Node, End}
 use Rattle.link_lists.specs.declared.rings.Neighbours.{Neighbours}
 use Rattle.link_lists.specs.declared.rings.Rings.{Rings}
 use Rattle.link_lists.specs.Lists.{list_at, IsFree, KeepsOthers, IsLinks}

@@ -4,7 +4,7 @@ use Rattle.std.proofs.lemmas.Bool.{cases_eq, eq-eqb, ne_eqb, true≢false, false
 use Rattle.std.specs.Prelude.{IsTrue, IsFalse, IfSome}
 use Rattle.std.specs.Bool.{then_some}
 use Rattle.std.specs.List.{Contains, IsDistinct}
-use Rattle.link_lists.specs.declared.rings.Place.TheVariants.{Node, End}
+use Rattle.link_lists.specs.declared.rings.RingPlace.TheVariants.{Node, End}
 use Rattle.link_lists.specs.declared.rings.Neighbours.{Neighbours}
 use Rattle.link_lists.specs.declared.rings.Rings.{Rings}
 use Rattle.link_lists.specs.Lists.{list_at, IsFree, IsLinked, IsLinks}

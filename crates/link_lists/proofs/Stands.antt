@@ -5,12 +5,12 @@ use Rattle.std.proofs.lemmas.List.{get_or_past}
 use Rattle.std.proofs.lemmas.List.Elements.{Contains-append_left, Contains-append_right}
 use Rattle.std.proofs.lemmas.List.FromFn.{fill_by_all}
 use Rattle.std.specs.List.{Contains}
-use Rattle.link_lists.specs.declared.rings.Place.{Place}
-use Rattle.link_lists.specs.declared.rings.Place.TheVariants.{Node, End}
+use Rattle.link_lists.specs.declared.rings.RingPlace.{RingPlace}
+use Rattle.link_lists.specs.declared.rings.RingPlace.TheVariants.{Node, End}
 use Rattle.link_lists.specs.declared.rings.Neighbours.{Neighbours}
 use Rattle.link_lists.specs.declared.rings.Rings.{Rings}
 use Rattle.link_lists.specs.Lists.{list_at, IsFree, IsLinks}
-use Rattle.link_lists.specs.Rings.{Joins, IsPlace, Chain, StandsFor, neighbours, place_after, place_before, nodes_from, lists_of}
+use Rattle.link_lists.specs.Rings.{Joins, IsRingPlace, Chain, StandsFor, neighbours, place_after, place_before, nodes_from, lists_of}
 use Rattle.link_lists.proofs.Members.{not_in_nil, in_rest, in_middle, length-distinct}
 use Rattle.link_lists.proofs.Chains.{Misses, misses_node, node_not_end, end_not_node, same_node, same_end, chain_kept, chain_left, chain_right, before_stop, after_start, node_after_start, end_after_start, nodes_from-chain}
 
@@ -42,14 +42,14 @@ pub no_first_node : {N L : ℕ} {r : Rings N L} {links : List (List ℕ)} (i k :
 no_first_node {N} {L} {r} {links} i k s within is = (end_after_start r (End i) (list_at links i) i k (s.rings i within) is).1
 
 -- the place is in the ring of list i
-pub record IsOn (links : List (List ℕ)) (i : ℕ) (p : Place) : Type 0 where
+pub record IsOn (links : List (List ℕ)) (i : ℕ) (p : RingPlace) : Type 0 where
   pub on : (p ≡ End i) ⊎ ((n : ℕ) × Contains (list_at links i) n × (p ≡ Node n))
 
-pub on_place : {N L : ℕ} {links : List (List ℕ)} {i : ℕ} {p : Place} → IsLinks N L links → i < L → IsOn links i p → IsPlace N L p
+pub on_place : {N L : ℕ} {links : List (List ℕ)} {i : ℕ} {p : RingPlace} → IsLinks N L links → i < L → IsOn links i p → IsRingPlace N L p
 on_place {N} {L} {links} {i} {p} all within o =
     elim o.on [
-      | inl is ↦ subst (IsPlace N L) (sym is) within
-      | inr (n, h, is) ↦ subst (IsPlace N L) (sym is) (all.below i n h)
+      | inl is ↦ subst (IsRingPlace N L) (sym is) within
+      | inr (n, h, is) ↦ subst (IsRingPlace N L) (sym is) (all.below i n h)
     ]
 
 pub on_end : (links : List (List ℕ)) (i : ℕ) → IsOn links i (End i)
@@ -67,13 +67,13 @@ on_after_end {N} {L} {r} {links} s i within =
     record { on = after_start r (End i) (list_at links i) (End i) (s.rings i within) }
 
 -- so these are places
-pub place_before_end : {N L : ℕ} {r : Rings N L} {sides : Neighbours} (i : ℕ) → StandsFor r (lists_of r) → i < L → sides ≡ neighbours r (End i) → IsPlace N L sides.before
+pub place_before_end : {N L : ℕ} {r : Rings N L} {sides : Neighbours} (i : ℕ) → StandsFor r (lists_of r) → i < L → sides ≡ neighbours r (End i) → IsRingPlace N L sides.before
 place_before_end {N} {L} {r} {sides} i s within is =
-    subst (λ v. IsPlace N L v.before) (sym is) (on_place s.shape within (on_before_end s i within))
+    subst (λ v. IsRingPlace N L v.before) (sym is) (on_place s.shape within (on_before_end s i within))
 
-pub place_after_end : {N L : ℕ} {r : Rings N L} {sides : Neighbours} (i : ℕ) → StandsFor r (lists_of r) → i < L → sides ≡ neighbours r (End i) → IsPlace N L sides.after
+pub place_after_end : {N L : ℕ} {r : Rings N L} {sides : Neighbours} (i : ℕ) → StandsFor r (lists_of r) → i < L → sides ≡ neighbours r (End i) → IsRingPlace N L sides.after
 place_after_end {N} {L} {r} {sides} i s within is =
-    subst (λ v. IsPlace N L v.after) (sym is) (on_place s.shape within (on_after_end s i within))
+    subst (λ v. IsRingPlace N L v.after) (sym is) (on_place s.shape within (on_after_end s i within))
 
 -- the ring of a list around one of its nodes
 pub ring_at : {N L : ℕ} {r : Rings N L} {links : List (List ℕ)} (s : StandsFor r links) (i n : ℕ) (before after : List ℕ) → i < L → list_at links i ≡ before ++ n ∷ after → Chain r (End i) (before ++ n ∷ after) (End i)
@@ -100,12 +100,12 @@ on_after_node {N} {L} {r} {links} s i n before after within split =
     ]
 
 -- the place is not in the ring of list i
-pub record IsOff (links : List (List ℕ)) (i : ℕ) (p : Place) : Type 0 where
+pub record IsOff (links : List (List ℕ)) (i : ℕ) (p : RingPlace) : Type 0 where
   pub end : End i ≢ p
   pub nodes : Misses (list_at links i) p
 
 -- a place in one ring is in no other
-pub off_other : {N L : ℕ} {links : List (List ℕ)} {i k : ℕ} {p : Place} → IsLinks N L links → k ≢ i → IsOn links i p → IsOff links k p
+pub off_other : {N L : ℕ} {links : List (List ℕ)} {i k : ℕ} {p : RingPlace} → IsLinks N L links → k ≢ i → IsOn links i p → IsOff links k p
 off_other {N} {L} {links} {i} {k} {p} all other o =
     record {
       end = λ same. elim o.on [
@@ -126,7 +126,7 @@ off_other {N} {L} {links} {i} {k} {p} all other o =
 pub off_free : (links : List (List ℕ)) (i n : ℕ) → IsFree links n → IsOff links i (Node n)
 off_free links i n free = record { end = end_not_node i n; nodes = misses_node (list_at links i) n (free i) }
 
-pub free_not_on : {links : List (List ℕ)} {i : ℕ} {p : Place} (m : ℕ) → IsFree links m → IsOn links i p → Node m ≢ p
+pub free_not_on : {links : List (List ℕ)} {i : ℕ} {p : RingPlace} (m : ℕ) → IsFree links m → IsOn links i p → Node m ≢ p
 free_not_on {links} {i} {p} m free o same =
     elim o.on [
       | inl is ↦ node_not_end m i (same ∙ is)
@@ -134,6 +134,6 @@ free_not_on {links} {i} {p} m free o same =
     ]
 
 -- a ring stays where a join is off it
-pub ring_kept : {N L : ℕ} {old new : Rings N L} {p q : Place} {links : List (List ℕ)} {k : ℕ} → Joins old new p q → IsOff links k p → IsOff links k q → Chain old (End k) (list_at links k) (End k) → Chain new (End k) (list_at links k) (End k)
+pub ring_kept : {N L : ℕ} {old new : Rings N L} {p q : RingPlace} {links : List (List ℕ)} {k : ℕ} → Joins old new p q → IsOff links k p → IsOff links k q → Chain old (End k) (list_at links k) (End k) → Chain new (End k) (list_at links k) (End k)
 ring_kept {links = links} {k = k} j first second c =
     chain_kept j (End k) (list_at links k) (End k) first.end first.nodes second.nodes second.end c

@@ -3,11 +3,11 @@ use Rattle.std.proofs.Common.{◌≡◌, ◌≢◌, ◌↔◌, ℕ, ◌<◌, Lis
 use Rattle.std.proofs.lemmas.Bool.{cases_eq}
 use Rattle.std.proofs.lemmas.List.{append-nil}
 use Rattle.std.specs.List.{Contains, IsDistinct}
-use Rattle.link_lists.specs.declared.rings.Place.TheVariants.{Node, End}
+use Rattle.link_lists.specs.declared.rings.RingPlace.TheVariants.{Node, End}
 use Rattle.link_lists.specs.declared.rings.Neighbours.{Neighbours}
 use Rattle.link_lists.specs.declared.rings.Rings.{Rings}
 use Rattle.link_lists.specs.Lists.{list_at, without, IsFree, IsLinked, KeepsOthers}
-use Rattle.link_lists.specs.Rings.{IsPlace, Joins, Chain, StandsFor, neighbours, place_before, place_after, lists_of}
+use Rattle.link_lists.specs.Rings.{IsRingPlace, Joins, Chain, StandsFor, neighbours, place_before, place_after, lists_of}
 use Rattle.link_lists.proofs.Members.{in_rest, in_here, in_sides, in_whole, split_at, one_split, distinct_left, distinct_right, distinct_rest, distinct_head, distinct_apart, distinct_sides, not_in_sides, without-absent, without-split}
 use Rattle.link_lists.proofs.Shapes.{list_at-set, list_at-same, list_at-other, IsLinks-set}
 use Rattle.link_lists.proofs.Chains.{misses_node, misses_end, node_not_end, end_not_node, same_node, chain_kept, chain_append, chain_left, chain_right, chain_to, not_before_stop}
@@ -142,8 +142,8 @@ linked_below {N} {L} {r} {links} n stood shown linked =
     s.shape.below linked.0 n linked.1
 
 pub record ArePlaces (N L : ℕ) (sides : Neighbours) : Type 0 where
-  pub before : IsPlace N L sides.before
-  pub after : IsPlace N L sides.after
+  pub before : IsRingPlace N L sides.before
+  pub after : IsRingPlace N L sides.after
 
 pub sides_are_places : {N L : ℕ} {r : Rings N L} {links : List (List ℕ)} {sides : Neighbours} (n : ℕ) → StandsFor r (lists_of r) → lists_of r ≡ links → IsLinked links n → sides ≡ neighbours r (Node n) → ArePlaces N L sides
 sides_are_places {N} {L} {r} {links} {sides} n stood shown linked is =
@@ -152,6 +152,6 @@ sides_are_places {N} {L} {r} {links} {sides} n stood shown linked is =
     let parts = split_at n (list_at links i) linked.1 in
     let within = list_in_range s.shape i n linked.1 in
     record {
-      before = subst (λ v. IsPlace N L v.before) (sym is) (on_place s.shape within (on_before_node s i n parts.0 parts.1 within parts.2));
-      after = subst (λ v. IsPlace N L v.after) (sym is) (on_place s.shape within (on_after_node s i n parts.0 parts.1 within parts.2));
+      before = subst (λ v. IsRingPlace N L v.before) (sym is) (on_place s.shape within (on_before_node s i n parts.0 parts.1 within parts.2));
+      after = subst (λ v. IsRingPlace N L v.after) (sym is) (on_place s.shape within (on_after_node s i n parts.0 parts.1 within parts.2));
     }

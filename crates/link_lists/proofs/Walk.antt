@@ -1,7 +1,7 @@
 -- The walk to the end of a number's list.
 use Rattle.std.proofs.Common.{◌≡◌, ℕ, ◌+◌, ◌<◌, List, [], ◌∷◌, ◌++◌, Some, None, length, ap, sym, ◌∙◌, subst, inl, inr, arith, append_assoc, slice_get}
 use Rattle.std.specs.List.{Contains}
-use Rattle.link_lists.specs.declared.rings.Place.TheVariants.{Node, End}
+use Rattle.link_lists.specs.declared.rings.RingPlace.TheVariants.{Node, End}
 use Rattle.link_lists.specs.declared.rings.Neighbours.{Neighbours}
 use Rattle.link_lists.specs.declared.rings.Rings.{Rings}
 use Rattle.link_lists.specs.Lists.{list_at, IsFree, IsLinks}

@@ -3,7 +3,7 @@
 ghost use Rattle.std.specs.Prelude.{◌≡◌, ◌≢◌, ℕ, ◌+◌, ◌<◌, ◌↔◌, List, [], ◌∷◌, ◌++◌, Some, None, IsNone, IfSome, IsTrue, IsFalse, Contains, slice_get};
 ghost use Rattle.link_lists.specs.Lists.{list_at, without, IsLinked, IsFree, KeepsOthers, IsLinks};
 
-use crate::rings::{Neighbours, Place, Rings};
+use crate::rings::{Neighbours, RingPlace, Rings};
 use std::marker::Model;
 
 /// `L` lists of numbers below `N`, each number in at most one of them.
@@ -47,8 +47,8 @@ impl<const N: usize, const L: usize> Links<N, L> {
         ensures kept { KeepsOthers self.old self.new node }
         ensures links { IsLinks N L self.new }
     {
-        let end = Place::End(list);
-        let node = Place::Node(node);
+        let end = RingPlace::End(list);
+        let node = RingPlace::Node(node);
         let last = self.rings.at(end).before;
         self.rings.join(last, node);
         self.rings.join(node, end);
@@ -83,7 +83,7 @@ impl<const N: usize, const L: usize> Links<N, L> {
         ensures kept { KeepsOthers self.old self.new node }
         ensures links { IsLinks N L self.new }
     {
-        let node = Place::Node(node);
+        let node = RingPlace::Node(node);
         let Neighbours { before, after } = self.rings.at(node);
         self.rings.join(before, after);
         self.rings.join(node, node);
@@ -101,13 +101,13 @@ impl<const N: usize, const L: usize> Links<N, L> {
         ensures kept { (n : ℕ) → IsLinked self.new n ↔ IsLinked self.old n }
         ensures links { IsLinks N L self.new }
     {
-        let source = Place::End(from);
-        let target = Place::End(to);
+        let source = RingPlace::End(from);
+        let target = RingPlace::End(to);
         let Neighbours {
             before: last,
             after: first,
         } = self.rings.at(source);
-        if let Place::Node(_) = first {
+        if let RingPlace::Node(_) = first {
             let behind = self.rings.at(target).before;
             self.rings.join(behind, first);
             self.rings.join(last, target);
@@ -122,9 +122,9 @@ impl<const N: usize, const L: usize> Links<N, L> {
         ensures range { IfSome result (λ n. n < N) }
         ensures links { IsLinks N L self.now }
     {
-        match self.rings.at(Place::End(list)).after {
-            Place::Node(node) => Some(node),
-            Place::End(_) => None,
+        match self.rings.at(RingPlace::End(list)).after {
+            RingPlace::Node(node) => Some(node),
+            RingPlace::End(_) => None,
         }
     }
 
@@ -137,9 +137,9 @@ impl<const N: usize, const L: usize> Links<N, L> {
         ensures free { IsFree self.now node → result ≡ None }
         ensures links { IsLinks N L self.now }
     {
-        match self.rings.at(Place::Node(node)).after {
-            Place::Node(next) => (next != node).then_some(next),
-            Place::End(_) => None,
+        match self.rings.at(RingPlace::Node(node)).after {
+            RingPlace::Node(next) => (next != node).then_some(next),
+            RingPlace::End(_) => None,
         }
     }
 
@@ -150,9 +150,9 @@ impl<const N: usize, const L: usize> Links<N, L> {
         ensures free { IsFalse result ↔ IsFree self.now node }
         ensures links { IsLinks N L self.now }
     {
-        match self.rings.at(Place::Node(node)).after {
-            Place::Node(next) => next != node,
-            Place::End(_) => true,
+        match self.rings.at(RingPlace::Node(node)).after {
+            RingPlace::Node(next) => next != node,
+            RingPlace::End(_) => true,
         }
     }
 
@@ -169,9 +169,9 @@ impl<const N: usize, const L: usize> Links<N, L> {
         while let Some(next) = self.next(last) {
             last = next;
         }
-        match rings.at(Place::Node(last)).after {
-            Place::End(list) => Some(list),
-            Place::Node(_) => None,
+        match rings.at(RingPlace::Node(last)).after {
+            RingPlace::End(list) => Some(list),
+            RingPlace::Node(_) => None,
         }
     }
 }

@@ -9,7 +9,7 @@ use std::array;
 
 /// A place in a ring: a node, or the end of a list, which stands after its last node and before its first one.
 #[derive(Clone, Copy)]
-pub enum Place {
+pub enum RingPlace {
     Node(usize),
     End(usize),
 }
@@ -17,13 +17,13 @@ pub enum Place {
 /// The places on both sides of a place.
 #[derive(Clone, Copy)]
 pub struct Neighbours {
-    pub before: Place,
-    pub after: Place,
+    pub before: RingPlace,
+    pub after: RingPlace,
 }
 
 impl Neighbours {
     /// Those of a place that is a ring alone.
-    fn alone(place: Place) -> Self
+    fn alone(place: RingPlace) -> Self
         ensures { result ≡ record { before = place; after = place } }
     {
         Neighbours {
@@ -41,46 +41,46 @@ pub struct Rings<const N: usize, const L: usize> {
 }
 
 impl<const N: usize, const L: usize> Rings<N, L> {
-    ghost use Rattle.link_lists.specs.declared.rings.Place.{Place};
-    ghost use Rattle.link_lists.specs.Rings.{IsPlace, neighbours, place_after, place_before, Joins};
+    ghost use Rattle.link_lists.specs.declared.rings.RingPlace.{RingPlace};
+    ghost use Rattle.link_lists.specs.Rings.{IsRingPlace, neighbours, place_after, place_before, Joins};
 
     /// Each place is alone.
     pub fn new() -> Self
-        ensures { (p : Place) → IsPlace N L p → neighbours result p ≡ record { before = p; after = p } }
+        ensures { (p : RingPlace) → IsRingPlace N L p → neighbours result p ≡ record { before = p; after = p } }
     {
         Rings {
-            nodes: array::from_fn(|node| Neighbours::alone(Place::Node(node))),
-            ends: array::from_fn(|list| Neighbours::alone(Place::End(list))),
+            nodes: array::from_fn(|node| Neighbours::alone(RingPlace::Node(node))),
+            ends: array::from_fn(|list| Neighbours::alone(RingPlace::End(list))),
         }
     }
 
     /// The places on both sides of this one.
-    pub fn at(&self, place: Place) -> Neighbours
-        requires { IsPlace N L place }
+    pub fn at(&self, place: RingPlace) -> Neighbours
+        requires { IsRingPlace N L place }
         ensures { result ≡ neighbours self.now place }
     {
         match place {
-            Place::Node(node) => self.nodes[node],
-            Place::End(list) => self.ends[list],
+            RingPlace::Node(node) => self.nodes[node],
+            RingPlace::End(list) => self.ends[list],
         }
     }
 
     /// Sets the places on both sides of this one.
-    fn put(&mut self, place: Place, value: Neighbours)
-        requires { IsPlace N L place }
+    fn put(&mut self, place: RingPlace, value: Neighbours)
+        requires { IsRingPlace N L place }
         ensures put { neighbours self.new place ≡ value }
-        ensures others { (p : Place) → p ≢ place → neighbours self.new p ≡ neighbours self.old p }
+        ensures others { (p : RingPlace) → p ≢ place → neighbours self.new p ≡ neighbours self.old p }
     {
         match place {
-            Place::Node(node) => self.nodes[node] = value,
-            Place::End(list) => self.ends[list] = value,
+            RingPlace::Node(node) => self.nodes[node] = value,
+            RingPlace::End(list) => self.ends[list] = value,
         }
     }
 
     /// Lets one place stand right before another.
-    pub fn join(&mut self, first: Place, second: Place)
-        requires first { IsPlace N L first }
-        requires second { IsPlace N L second }
+    pub fn join(&mut self, first: RingPlace, second: RingPlace)
+        requires first { IsRingPlace N L first }
+        requires second { IsRingPlace N L second }
         ensures { Joins self.old self.new first second }
     {
         let before = self.at(first).before;

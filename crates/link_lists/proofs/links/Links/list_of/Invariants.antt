@@ -1,6 +1,6 @@
 use Rattle.std.proofs.Common.{length}
 use Rattle.link_lists.specs.Rings.{place_after, nodes_from}
-use Rattle.link_lists.specs.declared.rings.Place.TheVariants.{Node}
+use Rattle.link_lists.specs.declared.rings.RingPlace.TheVariants.{Node}
 use Rattle.link_lists.proofs.Walk.{Walks}
 use Rattle.link_lists.proofs.links.Links.list_of.Given as goal
 
