@@ -1,3 +1,4 @@
+pub mod PartLemmas
 pub mod PlaceLemmas
 pub mod Lift
 pub mod FenceLemmas

@@ -1,6 +1,7 @@
 pub mod Words
 pub mod Places
 pub mod Flushes
+pub mod Parts
 pub mod Kept
 pub mod Memory
 pub mod Laws

@@ -1,5 +1,6 @@
 -- What contracts see of a memory, and of a frame that it has lent.
 use Rattle.std.specs.Prelude.{◌≡◌, ◌≢◌, ℕ, ◌+◌, ◌-◌, ◌^◌, ◌<◌, Bool, true, min, List, Option, is_some}
+pub use Rattle.sls_base.specs.Counts.{one_more as count_up}
 use Rattle.sls_base.specs.declared.limits.TheConstants.{FRAMES}
 use Rattle.pmem_model.specs.Words.{Word, BankWords}
 use Rattle.pmem_model.specs.Places.{bank_of, bank_start, word_among, bank_at}
@@ -43,10 +44,6 @@ SameHomesBut frame old new = (k : ℕ) → k ≢ 1 + frame → is_some (bank_at 
 pub record LentFrame : Type 0 where
   pub bank : BankWords
   pub ops : ℕ
-
--- one more, up to the greatest number
-abbrev pub count_up : ℕ → ℕ
-count_up n = min (n + 1) (2 ^ 64 - 1)
 
 -- more, up to the greatest number
 abbrev pub count_by : ℕ → ℕ → ℕ

@@ -2,10 +2,10 @@
 
 ghost use Rattle.std.specs.Prelude.{◌≡◌, ◌≢◌, ℕ, ◌+◌, ◌-◌, ◌<◌, ◌≤◌, true, length, slice_index, if◌then◌else◌, IfSome, IfNone, IfOk};
 ghost use Rattle.pmem_model.specs.Kept.{is_between};
+ghost use Rattle.pmem_model.specs.Parts.{part_start};
 ghost use Rattle.pmem_model.specs.Words.{is_within, has_core, stored, flushed, fenced, written_back, lost, word_in, bank_len};
 
-use crate::kernel;
-use crate::span::Span;
+use crate::{kernel, parts};
 use sls_base::CoreNo;
 use std::alloc::{AllocError, Global};
 use std::marker::Model;
@@ -16,8 +16,8 @@ pub struct Bank {
     cached: Vec<u64>,
     durable: Vec<u64>,
     marks: Vec<u8>,
-    /// Where words were stored or marked since the last cut.
-    touched: Span,
+    /// The parts where words were stored or marked since the last cut, at least those that aren't clean or have marks.
+    touched: u64,
 }
 
 impl Model for Bank {
@@ -28,12 +28,13 @@ impl Model for Bank {
 
     ghost view = { λ b. record { cached = b.cached.items; durable = b.durable.items; marks = b.marks.items } };
 
-    ghost invariant = { λ b. IsKept b.cached.items b.durable.items b.marks.items b.touched.first b.touched.past };
+    ghost invariant = { λ b. IsKept b.cached.items b.durable.items b.marks.items b.touched };
 }
 
 impl Bank {
     /// These words, cached and durable.
     pub fn from_words(alloc: Global, words: &[u64]) -> Result<Bank, AllocError>
+        requires { part_start (length words.now) 64 ≡ length words.now }
         ensures len { IfOk result (λ b. bank_len b ≡ length words.now) }
         ensures words { IfOk result (λ b. (i : ℕ) → word_in b i ≡ record { cached = slice_index words.now i; durable = slice_index words.now i; marks = 0 }) }
     {
@@ -41,7 +42,7 @@ impl Bank {
             cached: Vec::from_slice(alloc, words)?,
             durable: Vec::from_slice(alloc, words)?,
             marks: vec![in alloc; 0; words.len()]?,
-            touched: Span::none(),
+            touched: 0,
         })
     }
 
@@ -77,25 +78,27 @@ impl Bank {
 
     /// Stores words from `at` on.
     pub fn store(&mut self, at: usize, words: &[u64])
-        requires { at + length words.now ≤ bank_len self.old }
+        requires some { 0 < length words.now }
+        requires fits { at + length words.now ≤ bank_len self.old }
         ensures words { (i : ℕ) → word_in self.new i
             ≡ (if is_within at (length words.now) i then stored (slice_index words.now (i - at)) (word_in self.old i) else word_in self.old i) }
         ensures len { bank_len self.new ≡ bank_len self.old }
     {
         kernel::store(&mut self.cached, at, words);
         kernel::clear(&mut self.marks, at, at + words.len());
-        self.touched = self.touched.with(at, words.len());
+        self.touched = parts::with_words(self.touched, self.cached.len(), at, words.len());
     }
 
     /// Marks `count` words from `at` on as in flight for a core.
     pub fn mark(&mut self, core: CoreNo, at: usize, count: usize)
         requires core { core < 8 }
+        requires some { 0 < count }
         requires fits { at + count ≤ bank_len self.old }
         ensures words { (i : ℕ) → word_in self.new i ≡ (if is_within at count i then flushed core (word_in self.old i) else word_in self.old i) }
         ensures len { bank_len self.new ≡ bank_len self.old }
     {
         kernel::mark(&mut self.marks, core, at, count);
-        self.touched = self.touched.with(at, count);
+        self.touched = parts::with_words(self.touched, self.cached.len(), at, count);
     }
 
     /// A fence by a core on the words from `first` on and before `past`.
@@ -113,37 +116,38 @@ impl Bank {
             first,
             past,
         );
-        self.forget_touched(first, past);
+        self.forget_calm(first, past);
     }
 
-    /// A fence by a core on all words: no other than those touched has a mark.
-    #[tactic(auto, using(crate::specs::Marks::zero_has))]
+    /// A fence by a core on all words: no word has a mark but in touched parts.
+    #[tactic(auto, using(crate::proofs::PartLemmas::parts))]
     pub fn settle_all(&mut self, core: CoreNo)
         requires { core < 8 }
         ensures words { (i : ℕ) → word_in self.new i ≡ fenced core (word_in self.old i) }
         ensures len { bank_len self.new ≡ bank_len self.old }
     {
-        let Span { first, past } = self.touched;
-        self.settle(core, first, past);
+        let len = self.cached.len();
+        let mut rest = self.touched;
+        while rest != 0 {
+            let part = parts::first(rest);
+            self.settle(core, parts::start(len, part), parts::start(len, part + 1));
+            rest = parts::without(rest, part);
+        }
     }
 
-    /// Forgets what was touched, if it is from `first` on and before `past`, clean and without marks.
-    fn forget_touched(&mut self, first: usize, past: usize)
+    /// Forgets the touched parts that end between two places, are clean and have no mark.
+    fn forget_calm(&mut self, first: usize, past: usize)
+        requires { past ≤ bank_len self.old }
         ensures { self.new ≡ self.old }
     {
-        let touched = self.touched;
-        if first <= touched.first
-            && touched.past <= past
-            && kernel::is_calm(
-                &self.cached,
-                &self.durable,
-                &self.marks,
-                touched.first,
-                touched.past,
-            )
-        {
-            self.touched = Span::none();
-        }
+        self.touched = kernel::still_touched(
+            &self.cached,
+            &self.durable,
+            &self.marks,
+            self.touched,
+            first,
+            past,
+        );
     }
 
     /// Makes a word's cached value durable.
@@ -160,10 +164,13 @@ impl Bank {
         ensures words { (i : ℕ) → word_in self.new i ≡ lost (word_in self.old i) }
         ensures len { bank_len self.new ≡ bank_len self.old }
     {
-        let Span { first, past } = self.touched;
-        kernel::revert(&mut self.cached, &self.durable, first, past);
-        kernel::clear(&mut self.marks, first, past);
-        self.touched = Span::none();
+        kernel::cut(
+            &mut self.cached,
+            &self.durable,
+            &mut self.marks,
+            self.touched,
+        );
+        self.touched = 0;
     }
 
     /// The least word from `from` on whose cached and durable values differ.
@@ -172,7 +179,6 @@ impl Bank {
         ensures before { IfSome result (λ at. (i : ℕ) → from ≤ i → i < at → (word_in self.now i).cached ≡ (word_in self.now i).durable) }
         ensures none { IfNone result ((i : ℕ) → from ≤ i → (word_in self.now i).cached ≡ (word_in self.now i).durable) }
     {
-        let Span { first, past } = self.touched;
-        kernel::first_difference(&self.cached, &self.durable, first.max(from), past)
+        kernel::first_difference(&self.cached, &self.durable, self.touched, from)
     }
 }

@@ -8,6 +8,9 @@ use crate::bank::Bank;
 use sls_base::{CoreNo, FRAME_WORDS, FRAMES, TABLE_WORDS, WORDS};
 use std::alloc::{AllocError, Global};
 
+/// The table, and behind it the frames at home.
+pub type Banks = Vec<Option<Bank>>;
+
 /// The bank of a word.
 #[tactic(auto, unfolding(crate::specs::Places::bank_of))]
 pub fn bank_number(at: usize) -> usize
@@ -34,11 +37,11 @@ pub fn offset(at: usize) -> usize
 
 /// The cached and the durable value of a word, zeros where its frame is away.
 #[tactic(auto, using(crate::proofs::PlaceLemmas::places))]
-pub fn values(banks: &[Option<Bank>], at: usize) -> (u64, u64)
-    requires banks { AreBanks banks.now }
+pub fn values(banks: &Banks, at: usize) -> (u64, u64)
+    requires banks { AreBanks banks.now.items }
     requires range { at < WORDS }
-    ensures cached { result.0 ≡ (word_among banks.now at).cached }
-    ensures durable { result.1 ≡ (word_among banks.now at).durable }
+    ensures cached { result.0 ≡ (word_among banks.now.items at).cached }
+    ensures durable { result.1 ≡ (word_among banks.now.items at).durable }
 {
     match &banks[bank_number(at)] {
         Some(bank) => (bank.read(offset(at)), bank.durable(offset(at))),
@@ -48,15 +51,16 @@ pub fn values(banks: &[Option<Bank>], at: usize) -> (u64, u64)
 
 /// Stores words from `at` on, inside one bank.
 #[tactic(auto, using(crate::proofs::PlaceLemmas::places))]
-pub fn store(banks: &mut [Option<Bank>], at: usize, words: &[u64])
-    requires banks { AreBanks banks.old }
+pub fn store(banks: &mut Banks, at: usize, words: &[u64])
+    requires banks { AreBanks banks.old.items }
     requires range { at < WORDS }
+    requires some { 0 < length words.now }
     requires inside { offset_of at + length words.now ≤ bank_size (bank_of at) }
-    requires home { IsTrue (is_some (bank_at banks.old (bank_of at))) }
-    ensures words { (i : ℕ) → word_among banks.new i
-        ≡ (if is_within at (length words.now) i then stored (slice_index words.now (i - at)) (word_among banks.old i) else word_among banks.old i) }
-    ensures home { (k : ℕ) → is_some (bank_at banks.new k) ≡ is_some (bank_at banks.old k) }
-    ensures banks { AreBanks banks.new }
+    requires home { IsTrue (is_some (bank_at banks.old.items (bank_of at))) }
+    ensures words { (i : ℕ) → word_among banks.new.items i
+        ≡ (if is_within at (length words.now) i then stored (slice_index words.now (i - at)) (word_among banks.old.items i) else word_among banks.old.items i) }
+    ensures home { (k : ℕ) → is_some (bank_at banks.new.items k) ≡ is_some (bank_at banks.old.items k) }
+    ensures banks { AreBanks banks.new.items }
 {
     match &mut banks[bank_number(at)] {
         Some(bank) => bank.store(offset(at), words),
@@ -66,15 +70,16 @@ pub fn store(banks: &mut [Option<Bank>], at: usize, words: &[u64])
 
 /// Marks `count` words from `at` on, inside one bank, as in flight for a core.
 #[tactic(auto, using(crate::proofs::PlaceLemmas::places))]
-pub fn mark(banks: &mut [Option<Bank>], core: CoreNo, at: usize, count: usize)
-    requires banks { AreBanks banks.old }
+pub fn mark(banks: &mut Banks, core: CoreNo, at: usize, count: usize)
+    requires banks { AreBanks banks.old.items }
     requires core { core < 8 }
     requires range { at < WORDS }
+    requires some { 0 < count }
     requires inside { offset_of at + count ≤ bank_size (bank_of at) }
-    requires home { IsTrue (is_some (bank_at banks.old (bank_of at))) }
-    ensures words { (i : ℕ) → word_among banks.new i ≡ (if is_within at count i then flushed core (word_among banks.old i) else word_among banks.old i) }
-    ensures home { (k : ℕ) → is_some (bank_at banks.new k) ≡ is_some (bank_at banks.old k) }
-    ensures banks { AreBanks banks.new }
+    requires home { IsTrue (is_some (bank_at banks.old.items (bank_of at))) }
+    ensures words { (i : ℕ) → word_among banks.new.items i ≡ (if is_within at count i then flushed core (word_among banks.old.items i) else word_among banks.old.items i) }
+    ensures home { (k : ℕ) → is_some (bank_at banks.new.items k) ≡ is_some (bank_at banks.old.items k) }
+    ensures banks { AreBanks banks.new.items }
 {
     match &mut banks[bank_number(at)] {
         Some(bank) => bank.mark(core, offset(at), count),
@@ -84,13 +89,13 @@ pub fn mark(banks: &mut [Option<Bank>], core: CoreNo, at: usize, count: usize)
 
 /// Makes a word's cached value durable.
 #[tactic(auto, using(crate::proofs::PlaceLemmas::places))]
-pub fn write_back(banks: &mut [Option<Bank>], at: usize)
-    requires banks { AreBanks banks.old }
+pub fn write_back(banks: &mut Banks, at: usize)
+    requires banks { AreBanks banks.old.items }
     requires range { at < WORDS }
-    requires home { IsTrue (is_some (bank_at banks.old (bank_of at))) }
-    ensures words { (i : ℕ) → word_among banks.new i ≡ (if is_within at 1 i then written_back (word_among banks.old i) else word_among banks.old i) }
-    ensures home { (k : ℕ) → is_some (bank_at banks.new k) ≡ is_some (bank_at banks.old k) }
-    ensures banks { AreBanks banks.new }
+    requires home { IsTrue (is_some (bank_at banks.old.items (bank_of at))) }
+    ensures words { (i : ℕ) → word_among banks.new.items i ≡ (if is_within at 1 i then written_back (word_among banks.old.items i) else word_among banks.old.items i) }
+    ensures home { (k : ℕ) → is_some (bank_at banks.new.items k) ≡ is_some (bank_at banks.old.items k) }
+    ensures banks { AreBanks banks.new.items }
 {
     match &mut banks[bank_number(at)] {
         Some(bank) => bank.write_back(offset(at)),
@@ -100,14 +105,14 @@ pub fn write_back(banks: &mut [Option<Bank>], at: usize)
 
 /// A fence by a core on `count` words from `at` on, inside one bank. Of a bank that is away nothing is changed.
 #[tactic(auto, using(crate::proofs::PlaceLemmas::places, crate::proofs::PlaceLemmas::size_most))]
-pub fn settle(banks: &mut [Option<Bank>], core: CoreNo, at: usize, count: usize)
-    requires banks { AreBanks banks.old }
+pub fn settle(banks: &mut Banks, core: CoreNo, at: usize, count: usize)
+    requires banks { AreBanks banks.old.items }
     requires core { core < 8 }
     requires range { at < WORDS }
     requires inside { offset_of at + count ≤ bank_size (bank_of at) }
-    ensures words { (i : ℕ) → word_among banks.new i ≡ (if is_within at count i then fenced core (word_among banks.old i) else word_among banks.old i) }
-    ensures home { (k : ℕ) → is_some (bank_at banks.new k) ≡ is_some (bank_at banks.old k) }
-    ensures banks { AreBanks banks.new }
+    ensures words { (i : ℕ) → word_among banks.new.items i ≡ (if is_within at count i then fenced core (word_among banks.old.items i) else word_among banks.old.items i) }
+    ensures home { (k : ℕ) → is_some (bank_at banks.new.items k) ≡ is_some (bank_at banks.old.items k) }
+    ensures banks { AreBanks banks.new.items }
 {
     match &mut banks[bank_number(at)] {
         Some(bank) => {
@@ -120,12 +125,12 @@ pub fn settle(banks: &mut [Option<Bank>], core: CoreNo, at: usize, count: usize)
 
 /// A fence by a core on all banks at home.
 #[tactic(auto, using(crate::specs::Marks::zero_has))]
-pub fn settle_all(banks: &mut [Option<Bank>], core: CoreNo)
-    requires banks { AreBanks banks.old }
+pub fn settle_all(banks: &mut Banks, core: CoreNo)
+    requires banks { AreBanks banks.old.items }
     requires core { core < 8 }
-    ensures words { (i : ℕ) → word_among banks.new i ≡ fenced core (word_among banks.old i) }
-    ensures home { (k : ℕ) → is_some (bank_at banks.new k) ≡ is_some (bank_at banks.old k) }
-    ensures banks { AreBanks banks.new }
+    ensures words { (i : ℕ) → word_among banks.new.items i ≡ fenced core (word_among banks.old.items i) }
+    ensures home { (k : ℕ) → is_some (bank_at banks.new.items k) ≡ is_some (bank_at banks.old.items k) }
+    ensures banks { AreBanks banks.new.items }
 {
     for k in 0..banks.len() {
         if let Some(bank) = &mut banks[k] {
@@ -135,11 +140,11 @@ pub fn settle_all(banks: &mut [Option<Bank>], core: CoreNo)
 }
 
 /// A power cut.
-pub fn cut(banks: &mut [Option<Bank>])
-    requires { AreBanks banks.old }
-    ensures words { (i : ℕ) → word_among banks.new i ≡ lost (word_among banks.old i) }
-    ensures home { (k : ℕ) → is_some (bank_at banks.new k) ≡ is_some (bank_at banks.old k) }
-    ensures banks { AreBanks banks.new }
+pub fn cut(banks: &mut Banks)
+    requires { AreBanks banks.old.items }
+    ensures words { (i : ℕ) → word_among banks.new.items i ≡ lost (word_among banks.old.items i) }
+    ensures home { (k : ℕ) → is_some (bank_at banks.new.items k) ≡ is_some (bank_at banks.old.items k) }
+    ensures banks { AreBanks banks.new.items }
 {
     for k in 0..banks.len() {
         if let Some(bank) = &mut banks[k] {
@@ -182,11 +187,11 @@ fn first_place(bank: usize, at: usize) -> usize
 
 /// The least word from `at` on, in banks at home, whose cached and durable values differ.
 #[tactic(auto, using(crate::proofs::PlaceLemmas::walks))]
-pub fn dirty_from(banks: &[Option<Bank>], at: usize) -> Option<usize>
-    requires { AreBanks banks.now }
-    ensures found { IfSome result (λ w. (at ≤ w) × (w < WORDS) × ((word_among banks.now w).cached ≢ (word_among banks.now w).durable)) }
-    ensures before { IfSome result (λ w. (i : ℕ) → at ≤ i → i < w → (word_among banks.now i).cached ≡ (word_among banks.now i).durable) }
-    ensures none { IfNone result ((i : ℕ) → at ≤ i → i < WORDS → (word_among banks.now i).cached ≡ (word_among banks.now i).durable) }
+pub fn dirty_from(banks: &Banks, at: usize) -> Option<usize>
+    requires { AreBanks banks.now.items }
+    ensures found { IfSome result (λ w. (at ≤ w) × (w < WORDS) × ((word_among banks.now.items w).cached ≢ (word_among banks.now.items w).durable)) }
+    ensures before { IfSome result (λ w. (i : ℕ) → at ≤ i → i < w → (word_among banks.now.items i).cached ≡ (word_among banks.now.items i).durable) }
+    ensures none { IfNone result ((i : ℕ) → at ≤ i → i < WORDS → (word_among banks.now.items i).cached ≡ (word_among banks.now.items i).durable) }
 {
     let first = bank_number(at);
     for k in first..banks.len() {
@@ -201,17 +206,17 @@ pub fn dirty_from(banks: &[Option<Bank>], at: usize) -> Option<usize>
 }
 
 /// Stores the cached words of one frame into another.
-pub fn copy(banks: &mut [Option<Bank>], from: usize, to: usize)
-    requires banks { AreBanks banks.old }
+pub fn copy(banks: &mut Banks, from: usize, to: usize)
+    requires banks { AreBanks banks.old.items }
     requires from_frame { from < FRAMES }
     requires to_frame { to < FRAMES }
     requires other { from ≢ to }
-    requires from_home { IsTrue (is_some (bank_at banks.old (1 + from))) }
-    requires to_home { IsTrue (is_some (bank_at banks.old (1 + to))) }
-    ensures words { (i : ℕ) → word_among banks.new i
-        ≡ bursts (bank_start (1 + to)) 512 (λ k. (word_among banks.old (bank_start (1 + from) + k)).cached) (word_among banks.old) i }
-    ensures home { (k : ℕ) → is_some (bank_at banks.new k) ≡ is_some (bank_at banks.old k) }
-    ensures banks { AreBanks banks.new }
+    requires from_home { IsTrue (is_some (bank_at banks.old.items (1 + from))) }
+    requires to_home { IsTrue (is_some (bank_at banks.old.items (1 + to))) }
+    ensures words { (i : ℕ) → word_among banks.new.items i
+        ≡ bursts (bank_start (1 + to)) 512 (λ k. (word_among banks.old.items (bank_start (1 + from) + k)).cached) (word_among banks.old.items) i }
+    ensures home { (k : ℕ) → is_some (bank_at banks.new.items k) ≡ is_some (bank_at banks.old.items k) }
+    ensures banks { AreBanks banks.new.items }
 {
     match banks[1 + to].take() {
         Some(mut target) => {
@@ -227,7 +232,7 @@ pub fn copy(banks: &mut [Option<Bank>], from: usize, to: usize)
 
 /// The banks of a memory with these words, cached and durable.
 #[tactic(auto, using(crate::proofs::PlaceLemmas::parts))]
-pub fn from_words(alloc: Global, words: &[u64]) -> Result<Vec<Option<Bank>>, AllocError>
+pub fn from_words(alloc: Global, words: &[u64]) -> Result<Banks, AllocError>
     requires { length words.now ≡ WORDS }
     ensures words { IfOk result (λ banks. (i : ℕ) → word_among banks.items i ≡ record { cached = slice_index words.now i; durable = slice_index words.now i; marks = 0 }) }
     ensures home { IfOk result (λ banks. (k : ℕ) → k < 1 + FRAMES → is_some (bank_at banks.items k) ≡ true) }

@@ -82,8 +82,11 @@ impl Flushes {
     }
 }
 
+/// What each of the eight cores has flushed since its last fence.
+pub type FlushesByCore = Vec<Flushes>;
+
 /// Nothing flushed by any of the eight cores.
-pub fn new_for_cores(alloc: Global) -> Result<Vec<Flushes>, AllocError>
+pub fn new_for_cores(alloc: Global) -> Result<FlushesByCore, AllocError>
     ensures { IfOk result (λ v. length v.items ≡ 8) }
 {
     let mut flushes = Vec::with_capacity(alloc, 8)?;

@@ -1,9 +1,11 @@
 //! The events on slices.
 
-ghost use Rattle.std.specs.Prelude.{◌≡◌, ◌≢◌, ℕ, ◌+◌, ◌-◌, ◌<◌, ◌≤◌, length, slice_index, if◌then◌else◌, IfSome, IfNone, IsTrue, true};
+ghost use Rattle.std.specs.Prelude.{◌≡◌, ◌≢◌, ℕ, ◌+◌, ◌-◌, ◌<◌, ◌≤◌, length, slice_index, if◌then◌else◌, IfSome, IfNone, IsTrue, true, false};
 ghost use Rattle.pmem_model.specs.Words.{is_within, has_core, with_core, without_core};
-ghost use Rattle.pmem_model.specs.Kept.{is_between};
+ghost use Rattle.pmem_model.specs.Kept.{is_between, IsKept};
+ghost use Rattle.pmem_model.specs.Parts.{part_start, is_touched};
 
+use crate::parts;
 use sls_base::CoreNo;
 
 pub fn is_marked(marks: u8, core: CoreNo) -> bool
@@ -111,6 +113,27 @@ pub fn revert(cached: &mut [u64], durable: &[u64], first: usize, past: usize)
     }
 }
 
+/// Sets each cached value to the durable one and takes the marks away, in the parts of a set.
+#[tactic(auto, using(crate::proofs::PartLemmas::parts))]
+pub fn cut(cached: &mut [u64], durable: &[u64], marks: &mut [u8], touched: u64)
+    requires parts { part_start (length cached.old) 64 ≡ length cached.old }
+    requires durable_len { length durable.now ≡ length cached.old }
+    requires marks_len { length marks.old ≡ length cached.old }
+    ensures cached { (i : ℕ) → slice_index cached.new i
+        ≡ (if is_touched (length cached.old) touched i then slice_index durable.now i else slice_index cached.old i) }
+    ensures marks { (i : ℕ) → slice_index marks.new i ≡ (if is_touched (length cached.old) touched i then 0 else slice_index marks.old i) }
+{
+    let mut rest = touched;
+    while rest != 0 {
+        let part = parts::first(rest);
+        let first = parts::start(cached.len(), part);
+        let past = parts::start(cached.len(), part + 1);
+        revert(cached, durable, first, past);
+        clear(marks, first, past);
+        rest = parts::without(rest, part);
+    }
+}
+
 /// Whether each word from `first` on and before `past` is clean and has no mark.
 pub fn is_calm(cached: &[u64], durable: &[u64], marks: &[u8], first: usize, past: usize) -> bool
     requires cached_fits { past ≤ length cached.now }
@@ -127,8 +150,45 @@ pub fn is_calm(cached: &[u64], durable: &[u64], marks: &[u8], first: usize, past
     true
 }
 
+/// The touched parts without a part that is clean and has no mark.
+#[tactic(auto, using(crate::proofs::PartLemmas::parts))]
+fn without_calm(cached: &[u64], durable: &[u64], marks: &[u8], touched: u64, part: usize) -> u64
+    requires kept { IsKept cached.now durable.now marks.now touched }
+    requires part { part < 64 }
+    ensures { IsKept cached.now durable.now marks.now result }
+{
+    let first = parts::start(cached.len(), part);
+    let past = parts::start(cached.len(), part + 1);
+    if parts::has(touched, part) && is_calm(cached, durable, marks, first, past) {
+        parts::without(touched, part)
+    } else {
+        touched
+    }
+}
+
+/// The touched parts without those that end between two places, are clean and have no mark.
+#[tactic(auto, using(crate::proofs::PartLemmas::parts))]
+pub fn still_touched(
+    cached: &[u64],
+    durable: &[u64],
+    marks: &[u8],
+    touched: u64,
+    first: usize,
+    past: usize,
+) -> u64
+    requires kept { IsKept cached.now durable.now marks.now touched }
+    requires fits { past ≤ length cached.now }
+    ensures { IsKept cached.now durable.now marks.now result }
+{
+    let mut left = touched;
+    for part in parts::number(cached.len(), first)..parts::number(cached.len(), past) {
+        left = without_calm(cached, durable, marks, left, part);
+    }
+    left
+}
+
 /// The least index from `first` on and before `past` where the values differ.
-pub fn first_difference(cached: &[u64], durable: &[u64], first: usize, past: usize) -> Option<usize>
+fn difference_between(cached: &[u64], durable: &[u64], first: usize, past: usize) -> Option<usize>
     requires cached_fits { past ≤ length cached.now }
     requires durable_fits { past ≤ length durable.now }
     ensures found { IfSome result (λ at. (first ≤ at) × (at < past) × (slice_index cached.now at ≢ slice_index durable.now at)) }
@@ -139,6 +199,29 @@ pub fn first_difference(cached: &[u64], durable: &[u64], first: usize, past: usi
         if cached[i] != durable[i] {
             return Some(i);
         }
+    }
+    None
+}
+
+/// The least index from `from` on where the values differ. They differ in touched parts alone.
+#[tactic(auto, using(crate::proofs::PartLemmas::parts))]
+pub fn first_difference(cached: &[u64], durable: &[u64], touched: u64, from: usize) -> Option<usize>
+    requires parts { part_start (length cached.now) 64 ≡ length cached.now }
+    requires durable_len { length durable.now ≡ length cached.now }
+    requires clean { (i : ℕ) → is_touched (length cached.now) touched i ≡ false → slice_index cached.now i ≡ slice_index durable.now i }
+    ensures found { IfSome result (λ at. (from ≤ at) × (at < length cached.now) × (slice_index cached.now at ≢ slice_index durable.now at)) }
+    ensures before { IfSome result (λ at. (i : ℕ) → from ≤ i → i < at → slice_index cached.now i ≡ slice_index durable.now i) }
+    ensures none { IfNone result ((i : ℕ) → from ≤ i → slice_index cached.now i ≡ slice_index durable.now i) }
+{
+    let mut rest = touched;
+    while rest != 0 {
+        let part = parts::first(rest);
+        let first = parts::start(cached.len(), part).max(from);
+        let past = parts::start(cached.len(), part + 1);
+        if let Some(at) = difference_between(cached, durable, first, past) {
+            return Some(at);
+        }
+        rest = parts::without(rest, part);
     }
     None
 }

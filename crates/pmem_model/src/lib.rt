@@ -8,8 +8,8 @@ mod flushes;
 mod frame;
 mod kernel;
 pub mod laws;
+mod parts;
 mod pmem;
-mod span;
 
 pub use frame::Frame;
 pub use pmem::Pmem;

@@ -5,8 +5,8 @@ ghost use Rattle.pmem_model.specs.Words.{is_within, word_in, bursts, flushes, fe
 ghost use Rattle.pmem_model.specs.Places.{bank_of, offset_of, bank_size, bank_at, zero_word};
 ghost use Rattle.pmem_model.specs.Memory.{word_at, is_at_home, is_frame_home, frame_begin, AllHome, SameHomes, SameHomesBut, count_up, count_by};
 
-use crate::bank::Bank;
-use crate::flushes::Flushes;
+use crate::banks::Banks;
+use crate::flushes::FlushesByCore;
 use crate::frame::Frame;
 use crate::{banks, fences, flushes};
 use sls_base::{CoreNo, FRAME_WORDS, FRAMES, WORDS};
@@ -19,8 +19,8 @@ use std::marker::Model;
 /// Only `new` and `from_words` take memory. No other call is refused.
 #[derive(Drop)]
 pub struct Pmem {
-    banks: Vec<Option<Bank>>,
-    flushes: Vec<Flushes>,
+    banks: Banks,
+    flushes: FlushesByCore,
     ops: u64,
     commits: u64,
     cuts: u64,

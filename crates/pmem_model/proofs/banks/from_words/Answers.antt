@@ -1,4 +1,4 @@
-use Rattle.std.proofs.Common.{true, is_some, ◌≡◌, ℕ, ◌+◌, ◌<◌, ◌≤◌, arith, get_or, None, ⊎_elim, refl}
+use Rattle.std.proofs.Common.{true, is_some, ◌≡◌, ℕ, ◌+◌, ◌-◌, ◌<◌, ◌≤◌, arith, get_or, None, ⊎_elim, refl, length, take, drop}
 use Rattle.std.proofs.lemmas.Grind.{common_steps}
 use Rattle.std.proofs.lemmas.Bool.{cases_lt}
 use Rattle.std.proofs.lemmas.List.{get_or_past}
@@ -6,12 +6,22 @@ use Rattle.std.proofs.lemmas.List.Edits.{get_or-between}
 use Rattle.pmem_model.specs.Words.{Word, bank_len}
 use Rattle.pmem_model.specs.Places.{bank_of, offset_of, bank_size, bank_start, word_of, HasSize}
 use Rattle.sls_base.specs.declared.limits.TheConstants.{FRAMES, WORDS}
-use Rattle.pmem_model.proofs.PlaceLemmas.{place_sum, offset_of_lt, bank_of_lt, bank_of_ge}
+use Rattle.pmem_model.proofs.PlaceLemmas.{place_sum, offset_of_lt, bank_of_lt, bank_of_ge, bank_end}
+use Rattle.pmem_model.proofs.PartLemmas.{parts_whole}
 use Rattle.pmem_model.proofs.Pushes.{each_pushed, all_pushed}
 use Rattle.pmem_model.proofs.banks.from_words.Goals as goal
 
 abbrev clean : ℕ → Word
 clean x = record { cached = x; durable = x; marks = 0 }
+
+pub from_words-requires : goal.from_words-requires
+from_words-requires c =
+    let k = c.loop-k.k in
+    let words = c.args.words.now in
+    let from = c.start-from.result in
+    let end = bank_end k (omega arith) in
+    let len : length (take (from + c.size.result - from) (drop from words)) ≡ bank_size k = grind (arith, common_steps, end) in
+    rw len (parts_whole k)
 
 pub loop-k-preserved : goal.loop-k-preserved
 loop-k-preserved c =

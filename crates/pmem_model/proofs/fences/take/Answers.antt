@@ -6,10 +6,10 @@ use Rattle.pmem_model.proofs.fences.take.Goals as goal
 
 pub returns-clause-lent : goal.returns-clause-lent
 returns-clause-lent c =
-    let is : bank_at c.args.banks.now (1 + c.args.frame) ≡ Some c.in-Some.bank = grind (arith, common_steps) in
-    λ o lt. sym (frame_word c.args.banks.now c.args.frame o c.in-Some.bank is lt)
+    let is : bank_at c.args.banks.now.items (1 + c.args.frame) ≡ Some c.in-Some.bank = grind (arith, common_steps) in
+    λ o lt. sym (frame_word c.args.banks.now.items c.args.frame o c.in-Some.bank is lt)
 
 pub returns-clause-words : goal.returns-clause-words
 returns-clause-words c =
-    let lt : 1 + c.args.frame < length c.args.banks.now = omega (arith, c.requires.sound.banks_sized.count) in
-    rw c.take.ensures.after (words_set c.args.banks.now c.args.frame None lt)
+    let lt : 1 + c.args.frame < length c.args.banks.now.items = omega (arith, c.requires.sound.banks_sized.count) in
+    rw c.take.ensures.after (words_set c.args.banks.now.items c.args.frame None lt)

@@ -11,5 +11,5 @@ invariant_of-self c =
     let durable_len : length c.settle.new.durable ≡ length b.durable.items = cc in
     let marks_len : length c.settle.new.marks ≡ length b.marks.items = cc in
     rw (whole_written b.durable.len c.settle.new.durable b.durable.items durable_len (omega (arith, b.durable.ok.0)), whole_written b.marks.len c.settle.new.marks b.marks.items marks_len (omega (arith, b.marks.ok.0)))
-    (kept_settled b.cached.items b.durable.items b.marks.items c.settle.new.durable c.settle.new.marks b.touched.first b.touched.past c.args.core c.args.first c.args.past
+    (kept_settled b.cached.items b.durable.items b.marks.items c.settle.new.durable c.settle.new.marks b.touched c.args.core c.args.first c.args.past
     c.self.invariant durable_len marks_len durable marks)

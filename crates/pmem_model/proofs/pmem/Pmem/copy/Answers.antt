@@ -1,16 +1,12 @@
-use Rattle.std.proofs.Common.{arith}
 use Rattle.std.proofs.Common.{◌+◌}
 use Rattle.pmem_model.specs.Words.{is_within}
-use Rattle.pmem_model.specs.Places.{bank_start}
-use Rattle.pmem_model.specs.Places.{word_among}
+use Rattle.pmem_model.specs.Places.{bank_start, word_among}
 use Rattle.pmem_model.proofs.SoundLemmas.{sound_after_less, less_stored}
-use Rattle.pmem_model.proofs.Writes.{whole_written}
 use Rattle.pmem_model.proofs.pmem.Pmem.copy.Goals as goal
 
 pub invariant_of-self : goal.invariant_of-self
 invariant_of-self c =
     let p = c.self.inside in
-    let after = c.copy.new.banks in
-    let words = rw c.deref_mut.ensures.value at c.copy.ensures.words in
-    rw (whole_written p.banks.len after p.banks.items (omega (arith, c.copy.ensures.banks.count, c.self.invariant.banks_sized.count)) (omega (arith, p.banks.ok.0)))
-    (sound_after_less p.banks.items after p.flushes.items c.self.invariant c.copy.ensures.banks (λ core i. less_stored (is_within (bank_start (1 + c.args.to)) 512 i) _ (word_among after i) (word_among p.banks.items i) core (words i)))
+    let after = c.copy.new.banks.items in
+    sound_after_less p.banks.items after p.flushes.items c.self.invariant c.copy.ensures.banks
+    (λ core i. less_stored (is_within (bank_start (1 + c.args.to)) 512 i) _ (word_among after i) (word_among p.banks.items i) core (c.copy.ensures.words i))

@@ -1,13 +1,10 @@
-use Rattle.std.proofs.Common.{arith}
 use Rattle.pmem_model.specs.Places.{word_among}
 use Rattle.pmem_model.proofs.SoundLemmas.{sound_after_less, less_lost}
-use Rattle.pmem_model.proofs.Writes.{whole_written}
 use Rattle.pmem_model.proofs.pmem.Pmem.cut.Goals as goal
 
 pub invariant_of-self : goal.invariant_of-self
 invariant_of-self c =
     let p = c.self.inside in
-    let after = c.cut.new.banks in
-    let words = rw c.deref_mut.ensures.value at c.cut.ensures.words in
-    rw (whole_written p.banks.len after p.banks.items (omega (arith, c.cut.ensures.banks.count, c.self.invariant.banks_sized.count)) (omega (arith, p.banks.ok.0)))
-    (sound_after_less p.banks.items after p.flushes.items c.self.invariant c.cut.ensures.banks (λ core i. less_lost (word_among after i) (word_among p.banks.items i) core (words i)))
+    let after = c.cut.new.banks.items in
+    sound_after_less p.banks.items after p.flushes.items c.self.invariant c.cut.ensures.banks
+    (λ core i. less_lost (word_among after i) (word_among p.banks.items i) core (c.cut.ensures.words i))
