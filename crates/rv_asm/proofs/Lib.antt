@@ -11,4 +11,5 @@ pub mod Shapes
 pub mod Spelled
 pub mod Read
 pub mod Rows
+pub mod Table
 pub mod Round

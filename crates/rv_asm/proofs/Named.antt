@@ -7,7 +7,8 @@ use Rattle.rv_table.specs.Table.{IsOneOf, branch_ops, load_ops, store_ops, plain
 use Rattle.rv_asm.specs.declared.error.AsmCause.{AsmCause}
 use Rattle.rv_asm.specs.declared.error.AsmCause.TheVariants as cause
 use Rattle.rv_asm.specs.declared.mnemonic.Mnemonic.{Mnemonic}
-use Rattle.rv_asm.specs.declared.mnemonic.Mnemonic.TheVariants.{Lui, Auipc, Jal, Jalr, Branch, Load, Store, Immediate, Shift, Register, Word}
+use Rattle.rv_asm.specs.declared.mnemonic.Mnemonic.TheVariants.{Jal, Branch, Plain, Word}
+use Rattle.rv_asm.specs.declared.mnemonic.PlainMnemonic.TheVariants.{Lui, Auipc, Jalr, Load, Store, Immediate, Shift, Register}
 use Rattle.rv_asm.specs.Bytes.{is_either}
 use Rattle.rv_asm.specs.Text.{front, rest, is_blank, is_nothing, trim, trim_start, trim_end, without_last}
 use Rattle.rv_asm.specs.Names.{mnemonic_of}
@@ -34,29 +35,29 @@ named name m h no_colon is =
     let second = and_parts _ _ first.1 in
     record { some = ltb-true 0 (length name) first.0; bytes = second.1; short = leb-true (length name) 6 second.0; no_colon = no_colon; is = is }
 
-pub lui_named : IsName (codes "lui") Lui
+pub lui_named : IsName (codes "lui") (Plain Lui)
 unfolding mnemonic_of
-lui_named = named (codes "lui") Lui refl refl refl
+lui_named = named (codes "lui") (Plain Lui) refl refl refl
 
-pub auipc_named : IsName (codes "auipc") Auipc
+pub auipc_named : IsName (codes "auipc") (Plain Auipc)
 unfolding mnemonic_of
-auipc_named = named (codes "auipc") Auipc refl refl refl
+auipc_named = named (codes "auipc") (Plain Auipc) refl refl refl
 
 pub jal_named : IsName (codes "jal") Jal
 unfolding mnemonic_of
 jal_named = named (codes "jal") Jal refl refl refl
 
-pub jalr_named : IsName (codes "jalr") Jalr
+pub jalr_named : IsName (codes "jalr") (Plain Jalr)
 unfolding mnemonic_of
-jalr_named = named (codes "jalr") Jalr refl refl refl
+jalr_named = named (codes "jalr") (Plain Jalr) refl refl refl
 
 pub word_named : IsName (codes ".word") Word
 unfolding mnemonic_of
 word_named = named (codes ".word") Word refl refl refl
 
-pub srai_named : IsName (codes "srai") (Shift 5 true)
+pub srai_named : IsName (codes "srai") (Plain (Shift 5 true))
 unfolding mnemonic_of
-srai_named = named (codes "srai") (Shift 5 true) refl refl refl
+srai_named = named (codes "srai") (Plain (Shift 5 true)) refl refl refl
 
 pub branch_named : (op : ℕ) → IsOneOf op branch_ops → IsName (name_at branch_names op) (Branch op)
 unfolding mnemonic_of
@@ -72,74 +73,74 @@ branch_named op h =
       | inr (inr (inr (inr (inr (inr none))))) ↦ absurd none
     ]
 
-pub load_named : (op : ℕ) → IsOneOf op load_ops → IsName (name_at load_names op) (Load op)
+pub load_named : (op : ℕ) → IsOneOf op load_ops → IsName (name_at load_names op) (Plain (Load op))
 unfolding mnemonic_of
 load_named op h =
-    let P : ℕ → Type 0 = λ o. IsName (name_at load_names o) (Load o) in
+    let P : ℕ → Type 0 = λ o. IsName (name_at load_names o) (Plain (Load o)) in
     elim h [
-      | inl e ↦ subst P (sym e) (named (codes "lb") (Load 0) refl refl refl)
-      | inr (inl e) ↦ subst P (sym e) (named (codes "lh") (Load 1) refl refl refl)
-      | inr (inr (inl e)) ↦ subst P (sym e) (named (codes "lw") (Load 2) refl refl refl)
-      | inr (inr (inr (inl e))) ↦ subst P (sym e) (named (codes "lbu") (Load 4) refl refl refl)
-      | inr (inr (inr (inr (inl e)))) ↦ subst P (sym e) (named (codes "lhu") (Load 5) refl refl refl)
+      | inl e ↦ subst P (sym e) (named (codes "lb") (Plain (Load 0)) refl refl refl)
+      | inr (inl e) ↦ subst P (sym e) (named (codes "lh") (Plain (Load 1)) refl refl refl)
+      | inr (inr (inl e)) ↦ subst P (sym e) (named (codes "lw") (Plain (Load 2)) refl refl refl)
+      | inr (inr (inr (inl e))) ↦ subst P (sym e) (named (codes "lbu") (Plain (Load 4)) refl refl refl)
+      | inr (inr (inr (inr (inl e)))) ↦ subst P (sym e) (named (codes "lhu") (Plain (Load 5)) refl refl refl)
       | inr (inr (inr (inr (inr none)))) ↦ absurd none
     ]
 
-pub store_named : (op : ℕ) → IsOneOf op store_ops → IsName (name_at store_names op) (Store op)
+pub store_named : (op : ℕ) → IsOneOf op store_ops → IsName (name_at store_names op) (Plain (Store op))
 unfolding mnemonic_of
 store_named op h =
-    let P : ℕ → Type 0 = λ o. IsName (name_at store_names o) (Store o) in
+    let P : ℕ → Type 0 = λ o. IsName (name_at store_names o) (Plain (Store o)) in
     elim h [
-      | inl e ↦ subst P (sym e) (named (codes "sb") (Store 0) refl refl refl)
-      | inr (inl e) ↦ subst P (sym e) (named (codes "sh") (Store 1) refl refl refl)
-      | inr (inr (inl e)) ↦ subst P (sym e) (named (codes "sw") (Store 2) refl refl refl)
+      | inl e ↦ subst P (sym e) (named (codes "sb") (Plain (Store 0)) refl refl refl)
+      | inr (inl e) ↦ subst P (sym e) (named (codes "sh") (Plain (Store 1)) refl refl refl)
+      | inr (inr (inl e)) ↦ subst P (sym e) (named (codes "sw") (Plain (Store 2)) refl refl refl)
       | inr (inr (inr none)) ↦ absurd none
     ]
 
-pub plain_named : (op : ℕ) → IsOneOf op plain_ops → IsName (name_at immediate_names op) (Immediate op)
+pub plain_named : (op : ℕ) → IsOneOf op plain_ops → IsName (name_at immediate_names op) (Plain (Immediate op))
 unfolding mnemonic_of
 plain_named op h =
-    let P : ℕ → Type 0 = λ o. IsName (name_at immediate_names o) (Immediate o) in
+    let P : ℕ → Type 0 = λ o. IsName (name_at immediate_names o) (Plain (Immediate o)) in
     elim h [
-      | inl e ↦ subst P (sym e) (named (codes "addi") (Immediate 0) refl refl refl)
-      | inr (inl e) ↦ subst P (sym e) (named (codes "slti") (Immediate 2) refl refl refl)
-      | inr (inr (inl e)) ↦ subst P (sym e) (named (codes "sltiu") (Immediate 3) refl refl refl)
-      | inr (inr (inr (inl e))) ↦ subst P (sym e) (named (codes "xori") (Immediate 4) refl refl refl)
-      | inr (inr (inr (inr (inl e)))) ↦ subst P (sym e) (named (codes "ori") (Immediate 6) refl refl refl)
-      | inr (inr (inr (inr (inr (inl e))))) ↦ subst P (sym e) (named (codes "andi") (Immediate 7) refl refl refl)
+      | inl e ↦ subst P (sym e) (named (codes "addi") (Plain (Immediate 0)) refl refl refl)
+      | inr (inl e) ↦ subst P (sym e) (named (codes "slti") (Plain (Immediate 2)) refl refl refl)
+      | inr (inr (inl e)) ↦ subst P (sym e) (named (codes "sltiu") (Plain (Immediate 3)) refl refl refl)
+      | inr (inr (inr (inl e))) ↦ subst P (sym e) (named (codes "xori") (Plain (Immediate 4)) refl refl refl)
+      | inr (inr (inr (inr (inl e)))) ↦ subst P (sym e) (named (codes "ori") (Plain (Immediate 6)) refl refl refl)
+      | inr (inr (inr (inr (inr (inl e))))) ↦ subst P (sym e) (named (codes "andi") (Plain (Immediate 7)) refl refl refl)
       | inr (inr (inr (inr (inr (inr none))))) ↦ absurd none
     ]
 
-pub shift_named : (op : ℕ) → IsOneOf op shift_ops → IsName (name_at immediate_names op) (Shift op false)
+pub shift_named : (op : ℕ) → IsOneOf op shift_ops → IsName (name_at immediate_names op) (Plain (Shift op false))
 unfolding mnemonic_of
 shift_named op h =
-    let P : ℕ → Type 0 = λ o. IsName (name_at immediate_names o) (Shift o false) in
+    let P : ℕ → Type 0 = λ o. IsName (name_at immediate_names o) (Plain (Shift o false)) in
     elim h [
-      | inl e ↦ subst P (sym e) (named (codes "slli") (Shift 1 false) refl refl refl)
-      | inr (inl e) ↦ subst P (sym e) (named (codes "srli") (Shift 5 false) refl refl refl)
+      | inl e ↦ subst P (sym e) (named (codes "slli") (Plain (Shift 1 false)) refl refl refl)
+      | inr (inl e) ↦ subst P (sym e) (named (codes "srli") (Plain (Shift 5 false)) refl refl refl)
       | inr (inr none) ↦ absurd none
     ]
 
-pub alt_named : (op : ℕ) → IsOneOf op alt_ops → IsName (register_name op true) (Register op true)
+pub alt_named : (op : ℕ) → IsOneOf op alt_ops → IsName (register_name op true) (Plain (Register op true))
 unfolding mnemonic_of
 alt_named op h =
-    let P : ℕ → Type 0 = λ o. IsName (register_name o true) (Register o true) in
+    let P : ℕ → Type 0 = λ o. IsName (register_name o true) (Plain (Register o true)) in
     elim h [
-      | inl e ↦ subst P (sym e) (named (codes "sub") (Register 0 true) refl refl refl)
-      | inr (inl e) ↦ subst P (sym e) (named (codes "sra") (Register 5 true) refl refl refl)
+      | inl e ↦ subst P (sym e) (named (codes "sub") (Plain (Register 0 true)) refl refl refl)
+      | inr (inl e) ↦ subst P (sym e) (named (codes "sra") (Plain (Register 5 true)) refl refl refl)
       | inr (inr none) ↦ absurd none
     ]
 
-pub register_named : (op : ℕ) → op < 8 → IsName (name_at register_names op) (Register op false)
+pub register_named : (op : ℕ) → op < 8 → IsName (name_at register_names op) (Plain (Register op false))
 unfolding mnemonic_of
-register_named zero h = named (codes "add") (Register 0 false) refl refl refl
-register_named (suc zero) h = named (codes "sll") (Register 1 false) refl refl refl
-register_named (suc (suc zero)) h = named (codes "slt") (Register 2 false) refl refl refl
-register_named (suc (suc (suc zero))) h = named (codes "sltu") (Register 3 false) refl refl refl
-register_named (suc (suc (suc (suc zero)))) h = named (codes "xor") (Register 4 false) refl refl refl
-register_named (suc (suc (suc (suc (suc zero))))) h = named (codes "srl") (Register 5 false) refl refl refl
-register_named (suc (suc (suc (suc (suc (suc zero)))))) h = named (codes "or") (Register 6 false) refl refl refl
-register_named (suc (suc (suc (suc (suc (suc (suc zero))))))) h = named (codes "and") (Register 7 false) refl refl refl
+register_named zero h = named (codes "add") (Plain (Register 0 false)) refl refl refl
+register_named (suc zero) h = named (codes "sll") (Plain (Register 1 false)) refl refl refl
+register_named (suc (suc zero)) h = named (codes "slt") (Plain (Register 2 false)) refl refl refl
+register_named (suc (suc (suc zero))) h = named (codes "sltu") (Plain (Register 3 false)) refl refl refl
+register_named (suc (suc (suc (suc zero)))) h = named (codes "xor") (Plain (Register 4 false)) refl refl refl
+register_named (suc (suc (suc (suc (suc zero))))) h = named (codes "srl") (Plain (Register 5 false)) refl refl refl
+register_named (suc (suc (suc (suc (suc (suc zero)))))) h = named (codes "or") (Plain (Register 6 false)) refl refl refl
+register_named (suc (suc (suc (suc (suc (suc (suc zero))))))) h = named (codes "and") (Plain (Register 7 false)) refl refl refl
 register_named (suc (suc (suc (suc (suc (suc (suc (suc n)))))))) h = absurd (omega arith)
 
 -- a line without LF, comment or CR, of at most 63 bytes

@@ -10,11 +10,12 @@ use Rattle.rv_table.specs.Table.{IsInstr, IsSigned, IsOneOf, branch_ops}
 use Rattle.rv_asm.specs.declared.error.AsmCause.{AsmCause}
 use Rattle.rv_asm.specs.declared.error.AsmCause.TheVariants as cause
 use Rattle.rv_asm.specs.declared.mnemonic.Mnemonic.{Mnemonic}
-use Rattle.rv_asm.specs.declared.mnemonic.Mnemonic.TheVariants.{Lui, Auipc, Jal, Jalr, Branch, Load, Store, Immediate, Shift, Register, Word}
+use Rattle.rv_asm.specs.declared.mnemonic.Mnemonic.TheVariants.{Jal, Branch, Plain, Word}
+use Rattle.rv_asm.specs.declared.mnemonic.PlainMnemonic.TheVariants.{Lui, Auipc, Jalr, Load, Store, Immediate, Shift, Register}
 use Rattle.rv_asm.specs.declared.number.Number.{Number}
 use Rattle.rv_asm.specs.Operand.{number_of, within, even_within}
 use Rattle.rv_asm.specs.Names.{mnemonic_of}
-use Rattle.rv_asm.specs.Statement.{Statement, Data, Does, Target, Offset, upper, access, immediate, registers, reach, with_offset, aimed, does, instruction, statement_of, ◌>>=◌}
+use Rattle.rv_asm.specs.Statement.{Statement, Data, Does, Target, Offset, upper, access, immediate, registers, reach, with_offset, aimed, plain, instruction, statement_of, ◌>>=◌}
 use Rattle.rv_asm.specs.Printed.{register_text, signed_text, upper_text, memory_text, written, instruction_text, data_text, hex_digits, name_at, branch_names, load_names, store_names, immediate_names, register_names, register_name}
 use Rattle.rv_asm.proofs.Operands.{two_tokens, three_tokens, one_alone}
 use Rattle.rv_asm.proofs.Numbers.{register_read, number_read, magnitude_read}
@@ -22,6 +23,10 @@ use Rattle.rv_asm.proofs.Bytes.{is_line_byte, IsOperand, IsOperands, operand_tok
 use Rattle.rv_asm.proofs.Named.{IsName, IsLine, named_line, named_read, lui_named, auipc_named, jal_named, jalr_named, word_named, srai_named, branch_named, load_named, store_named, plain_named, shift_named, alt_named, register_named}
 use Rattle.rv_asm.proofs.Shapes.{upper_read, access_read, immediate_read, registers_read, data_read, jump_read, branch_read}
 use Rattle.rv_asm.proofs.Spelled.{register_operand, upper_operand, signed_operand, memory_operand, IsRead, signed_read, signed_no_name, memory_read, hex_spelled}
+
+-- an instruction that is all that a line says
+abbrev does : Result Instr AsmCause → Result Statement AsmCause
+does read = read >>= λ i. Ok (Does i)
 
 -- a line that says this
 pub record Says (text : List ℕ) (statement : Statement) : Type 0 where
@@ -151,32 +156,32 @@ bare_line : (text : List ℕ) → list_all is_line_byte text ≡ true → nat_le
 bare_line text bytes short = record { bytes = bytes; short = leb-true (length text) 63 short }
 
 pub instruction_said : (i : Instr) → IsInstr i → Says (instruction_text i) (Does i)
-unfolding instruction_text instruction statement_of mnemonic_of
-instruction_said (instr.Lui d imm) h = upper_said (codes "lui") Lui (λ r v. instr.Lui r v) lui_named (λ text. refl) d imm h.0 h.1 h.2
-instruction_said (instr.Auipc d imm) h = upper_said (codes "auipc") Auipc (λ r v. instr.Auipc r v) auipc_named (λ text. refl) d imm h.0 h.1 h.2
+unfolding instruction_text plain instruction statement_of mnemonic_of
+instruction_said (instr.Lui d imm) h = upper_said (codes "lui") (Plain Lui) (λ r v. instr.Lui r v) lui_named (λ text. refl) d imm h.0 h.1 h.2
+instruction_said (instr.Auipc d imm) h = upper_said (codes "auipc") (Plain Auipc) (λ r v. instr.Auipc r v) auipc_named (λ text. refl) d imm h.0 h.1 h.2
 instruction_said (instr.Jal d imm) h = jump_said d imm h.0 h.1 h.2
-instruction_said (instr.Jalr d a imm) h = access_said (codes "jalr") Jalr (λ r b v. instr.Jalr r b v) jalr_named (λ text. refl) d a imm h.0 h.1 h.2
+instruction_said (instr.Jalr d a imm) h = access_said (codes "jalr") (Plain Jalr) (λ r b v. instr.Jalr r b v) jalr_named (λ text. refl) d a imm h.0 h.1 h.2
 instruction_said (instr.Branch op a b imm) h = branch_said op a b imm h.0 h.1 h.2 h.3 h.4
-instruction_said (instr.Load op d a imm) h = access_said (name_at load_names op) (Load op) (λ r b v. instr.Load op r b v) (load_named op h.0) (λ text. refl) d a imm h.1 h.2 h.3
-instruction_said (instr.Store op a b imm) h = access_said (name_at store_names op) (Store op) (λ r s v. instr.Store op s r v) (store_named op h.0) (λ text. refl) b a imm h.2 h.1 h.3
+instruction_said (instr.Load op d a imm) h = access_said (name_at load_names op) (Plain (Load op)) (λ r b v. instr.Load op r b v) (load_named op h.0) (λ text. refl) d a imm h.1 h.2 h.3
+instruction_said (instr.Store op a b imm) h = access_said (name_at store_names op) (Plain (Store op)) (λ r s v. instr.Store op s r v) (store_named op h.0) (λ text. refl) b a imm h.2 h.1 h.3
 instruction_said (instr.OpImm op alt d a imm) (low_d, low_a, inl h) =
     let fits = signed_12 imm h.2 in
     let P : Bool → Type 0 = λ x. Says (instruction_text (instr.OpImm op x d a imm)) (Does (instr.OpImm op x d a imm)) in
-    subst P (sym h.1) (immediate_said 2048 2047 (name_at immediate_names op) (Immediate op) (λ r b v. instr.OpImm op false r b v) (plain_named op h.0) (λ text. refl) d a imm low_d low_a fits.0 (omega arith) (omega arith) fits.1)
+    subst P (sym h.1) (immediate_said 2048 2047 (name_at immediate_names op) (Plain (Immediate op)) (λ r b v. instr.OpImm op false r b v) (plain_named op h.0) (λ text. refl) d a imm low_d low_a fits.0 (omega arith) (omega arith) fits.1)
 instruction_said (instr.OpImm op alt d a imm) (low_d, low_a, inr (inl h)) =
     let P : Bool → Type 0 = λ x. Says (instruction_text (instr.OpImm op x d a imm)) (Does (instr.OpImm op x d a imm)) in
-    subst P (sym h.1) (immediate_said 0 31 (name_at immediate_names op) (Shift op false) (λ r b v. instr.OpImm op false r b v) (shift_named op h.0) (λ text. refl) d a imm low_d low_a (omega arith) (omega arith) (omega arith) (inl (omega arith)))
+    subst P (sym h.1) (immediate_said 0 31 (name_at immediate_names op) (Plain (Shift op false)) (λ r b v. instr.OpImm op false r b v) (shift_named op h.0) (λ text. refl) d a imm low_d low_a (omega arith) (omega arith) (omega arith) (inl (omega arith)))
 instruction_said (instr.OpImm op alt d a imm) (low_d, low_a, inr (inr h)) =
     let P : ℕ → Bool → Type 0 = λ o x. Says (instruction_text (instr.OpImm o x d a imm)) (Does (instr.OpImm o x d a imm)) in
-    let fives : P 5 true = immediate_said 0 31 (codes "srai") (Shift 5 true) (λ r b v. instr.OpImm 5 true r b v) srai_named (λ text. refl) d a imm low_d low_a (omega arith) (omega arith) (omega arith) (inl (omega arith)) in
+    let fives : P 5 true = immediate_said 0 31 (codes "srai") (Plain (Shift 5 true)) (λ r b v. instr.OpImm 5 true r b v) srai_named (λ text. refl) d a imm low_d low_a (omega arith) (omega arith) (omega arith) (inl (omega arith)) in
     let Q : ℕ → Type 0 = λ o. P o alt in
     let R : Bool → Type 0 = λ x. P 5 x in subst Q (sym h.0) (subst R (sym h.1) fives)
 instruction_said (instr.Op op alt d a b) (low_op, low_d, low_a, low_b, inl h) =
     let P : Bool → Type 0 = λ x. Says (instruction_text (instr.Op op x d a b)) (Does (instr.Op op x d a b)) in
-    subst P (sym h) (registers_said (name_at register_names op) (Register op false) (λ r s t. instr.Op op false r s t) (register_named op low_op) (λ text. refl) d a b low_d low_a low_b)
+    subst P (sym h) (registers_said (name_at register_names op) (Plain (Register op false)) (λ r s t. instr.Op op false r s t) (register_named op low_op) (λ text. refl) d a b low_d low_a low_b)
 instruction_said (instr.Op op alt d a b) (low_op, low_d, low_a, low_b, inr h) =
     let P : Bool → Type 0 = λ x. Says (instruction_text (instr.Op op x d a b)) (Does (instr.Op op x d a b)) in
-    subst P (sym h.0) (registers_said (register_name op true) (Register op true) (λ r s t. instr.Op op true r s t) (alt_named op h.1) (λ text. refl) d a b low_d low_a low_b)
+    subst P (sym h.0) (registers_said (register_name op true) (Plain (Register op true)) (λ r s t. instr.Op op true r s t) (alt_named op h.1) (λ text. refl) d a b low_d low_a low_b)
 instruction_said instr.Fence h = record { line = bare_line (codes "fence") refl refl; said = refl }
 instruction_said instr.Ecall h = record { line = bare_line (codes "ecall") refl refl; said = refl }
 instruction_said instr.Ebreak h = record { line = bare_line (codes "ebreak") refl refl; said = refl }

@@ -2,6 +2,7 @@ pub mod Bytes
 pub mod Text
 pub mod Operand
 pub mod Names
+pub mod Table
 pub mod Statement
 pub mod View
 pub mod Program

@@ -1,10 +1,12 @@
 -- The text of some words.
-use Rattle.std.specs.Prelude.{ℕ, ◌/◌, ◌%◌, ◌^◌, ◌==◌, zero, suc, Bool, false, if◌then◌else◌, Option, Some, None, List, [], ◌∷◌, ◌++◌, codes, slice_get, unwrap_or}
+use Rattle.std.specs.Prelude.{ℕ, ◌/◌, ◌%◌, ◌^◌, ◌==◌, zero, suc, Bool, false, if◌then◌else◌, Option, Some, None}
+use Rattle.std.specs.Prelude.{List, [], ◌∷◌, ◌++◌, codes, slice_get, unwrap_or}
 use Rattle.std.specs.Fmt.{decimal, signed_decimal, digit_glyph}
 use Rattle.std.specs.Int.{cast_signed, w32}
 use Rattle.std.specs.List.{flat_map}
 use Rattle.rv_table.specs.declared.Instr.{Instr}
-use Rattle.rv_table.specs.declared.Instr.TheVariants.{Lui, Auipc, Jal, Jalr, Branch, Load, Store, OpImm, Op as OpRow, Fence, Ecall, Ebreak}
+use Rattle.rv_table.specs.declared.Instr.TheVariants.{Lui, Auipc, Jal, Jalr, Branch, Load, Store, OpImm, Op as OpRow}
+use Rattle.rv_table.specs.declared.Instr.TheVariants.{Fence, Ecall, Ebreak}
 use Rattle.rv_table.specs.Decoded.{decoded}
 
 -- the names of branches by funct3, with nothing where no branch has it
@@ -23,7 +25,9 @@ store_names = codes "sb" ∷ codes "sh" ∷ codes "sw" ∷ []
 -- of operations with an immediate
 abbrev pub immediate_names : List (List ℕ)
 immediate_names =
-    codes "addi" ∷ codes "slli" ∷ codes "slti" ∷ codes "sltiu" ∷ codes "xori" ∷ codes "srli" ∷ codes "ori" ∷ codes "andi" ∷ []
+    codes "addi" ∷ codes "slli" ∷ codes "slti" ∷ codes "sltiu"
+    ∷ codes "xori" ∷ codes "srli" ∷ codes "ori" ∷ codes "andi"
+    ∷ []
 
 -- of operations on registers
 abbrev pub register_names : List (List ℕ)

@@ -2,14 +2,17 @@
 use Rattle.std.specs.Prelude.{ℕ, ◌*◌, ◌^◌, ◌-◌, false, ◌&&◌, if◌then◌else◌, Option, Some, None, Result, Ok, Err, List}
 use Rattle.std.specs.Option.{option_map, ok_or}
 use Rattle.rv_table.specs.declared.Instr.{Instr}
-use Rattle.rv_table.specs.declared.Instr.TheVariants.{Lui, Auipc, Jal, Jalr, Branch, Load, Store, OpImm, Op as OpRow, Fence, Ecall, Ebreak}
+use Rattle.rv_table.specs.declared.Instr.TheVariants.{Lui, Auipc, Jal, Jalr, Branch, Load, Store, OpImm, Op as OpRow}
 use Rattle.rv_asm.specs.declared.number.Number.{Number}
 use Rattle.rv_asm.specs.declared.mnemonic.Mnemonic.{Mnemonic}
 use Rattle.rv_asm.specs.declared.mnemonic.Mnemonic.TheVariants as mnemonic
+use Rattle.rv_asm.specs.declared.mnemonic.PlainMnemonic.{PlainMnemonic}
+use Rattle.rv_asm.specs.declared.mnemonic.PlainMnemonic.TheVariants as plain_mnemonic
 use Rattle.rv_asm.specs.declared.error.AsmCause.{AsmCause}
 use Rattle.rv_asm.specs.declared.error.AsmCause.TheVariants as cause
 use Rattle.rv_asm.specs.Bytes.{hash, colon, is_byte}
-use Rattle.rv_asm.specs.Text.{front, rest, is_blank, is_nothing, trim, trim_start, without_last, one_operand, two_operands, three_operands}
+use Rattle.rv_asm.specs.Text.{front, rest, is_blank, is_nothing, trim, trim_start, without_last}
+use Rattle.rv_asm.specs.Text.{one_operand, two_operands, three_operands}
 use Rattle.rv_asm.specs.Operand.{register_of, number_of, within, even_within, is_name, memory_of}
 use Rattle.rv_asm.specs.Names.{mnemonic_of}
 
@@ -113,7 +116,8 @@ with_offset instr imm = instr
 abbrev pub aimed : Instr → Target → Result Statement AsmCause
 aimed instr (Named name) = Ok (Aims instr name)
 aimed instr (Offset n) =
-    ok_or (option_map (λ imm. Does (with_offset instr imm)) (even_within (reach instr) (reach instr - 2) n)) cause.Number
+    let offset = even_within (reach instr) (reach instr - 2) n in
+    ok_or (option_map (λ imm. Does (with_offset instr imm)) offset) cause.Number
 
 -- the operands of jal
 unfoldable pub jump : List ℕ → Result (ℕ × Target) AsmCause
@@ -132,25 +136,23 @@ branch text = do
   rs2 ← reg parts.1
   Ok (rs1, rs2, target)
 
--- an instruction that is all that a line says
-abbrev pub does : Result Instr AsmCause → Result Statement AsmCause
-does read = read >>= λ instr. Ok (Does instr)
+-- an instruction that has no target, with its operands
+unfoldable pub plain : PlainMnemonic → List ℕ → Result Instr AsmCause
+plain plain_mnemonic.Lui text = upper text >>= λ p. Ok (Lui p.0 p.1)
+plain plain_mnemonic.Auipc text = upper text >>= λ p. Ok (Auipc p.0 p.1)
+plain plain_mnemonic.Jalr text = access text >>= λ p. Ok (Jalr p.0 p.1 p.2)
+plain (plain_mnemonic.Load op) text = access text >>= λ p. Ok (Load op p.0 p.1 p.2)
+plain (plain_mnemonic.Store op) text = access text >>= λ p. Ok (Store op p.1 p.0 p.2)
+plain (plain_mnemonic.Immediate op) text = immediate 2048 2047 text >>= λ p. Ok (OpImm op false p.0 p.1 p.2)
+plain (plain_mnemonic.Shift op alt) text = immediate 0 31 text >>= λ p. Ok (OpImm op alt p.0 p.1 p.2)
+plain (plain_mnemonic.Register op alt) text = registers text >>= λ p. Ok (OpRow op alt p.0 p.1 p.2)
+plain (plain_mnemonic.Bare instr) text = bare instr text
 
 -- a mnemonic with its operands
 unfoldable pub instruction : Mnemonic → List ℕ → Result Statement AsmCause
-instruction mnemonic.Lui text = does (upper text >>= λ p. Ok (Lui p.0 p.1))
-instruction mnemonic.Auipc text = does (upper text >>= λ p. Ok (Auipc p.0 p.1))
 instruction mnemonic.Jal text = jump text >>= λ p. aimed (Jal p.0 0) p.1
-instruction mnemonic.Jalr text = does (access text >>= λ p. Ok (Jalr p.0 p.1 p.2))
 instruction (mnemonic.Branch op) text = branch text >>= λ p. aimed (Branch op p.0 p.1 0) p.2
-instruction (mnemonic.Load op) text = does (access text >>= λ p. Ok (Load op p.0 p.1 p.2))
-instruction (mnemonic.Store op) text = does (access text >>= λ p. Ok (Store op p.1 p.0 p.2))
-instruction (mnemonic.Immediate op) text = does (immediate 2048 2047 text >>= λ p. Ok (OpImm op false p.0 p.1 p.2))
-instruction (mnemonic.Shift op alt) text = does (immediate 0 31 text >>= λ p. Ok (OpImm op alt p.0 p.1 p.2))
-instruction (mnemonic.Register op alt) text = does (registers text >>= λ p. Ok (OpRow op alt p.0 p.1 p.2))
-instruction mnemonic.Fence text = does (bare Fence text)
-instruction mnemonic.Ecall text = does (bare Ecall text)
-instruction mnemonic.Ebreak text = does (bare Ebreak text)
+instruction (mnemonic.Plain name) text = plain name text >>= λ instr. Ok (Does instr)
 instruction mnemonic.Word text = data_word text >>= λ n. Ok (Data n)
 
 -- a label's definition, of which nothing else stands in the line
@@ -174,4 +176,5 @@ content line = trim (front (is_byte hash) line)
 unfoldable pub statement_of : List ℕ → Result Statement AsmCause
 statement_of line =
     let text = content line in let word = front is_blank text in
-    if is_nothing text then Ok Blank else label_or_instruction word (trim_start (rest is_blank text)) (without_last colon word)
+    if is_nothing text then Ok Blank
+    else label_or_instruction word (trim_start (rest is_blank text)) (without_last colon word)

@@ -1,5 +1,6 @@
 -- Pieces of a text, which is a list of bytes.
-use Rattle.std.specs.Prelude.{ℕ, ◌-◌, ◌==◌, nat_lt, Bool, ◌&&◌, if◌then◌else◌, Option, Some, None, List, [], ◌∷◌, length, take, drop, slice_index}
+use Rattle.std.specs.Prelude.{ℕ, ◌-◌, ◌==◌, nat_lt, Bool, ◌&&◌, if◌then◌else◌, Option, Some, None}
+use Rattle.std.specs.Prelude.{List, [], ◌∷◌, length, take, drop, slice_index}
 use Rattle.std.specs.Option.{is_some, option_map, option_and_then}
 use Rattle.rv_asm.specs.Bytes.{tab, space, comma, is_either, is_byte}
 
@@ -43,7 +44,8 @@ is_nothing text = length text == 0
 -- the text without its last byte, where that is c
 abbrev pub without_last : ℕ → List ℕ → Option (List ℕ)
 without_last c text =
-    if nat_lt 0 (length text) && (slice_index text (length text - 1) == c) then Some (take (length text - 1) text) else None
+    let others = length text - 1 in
+    if nat_lt 0 (length text) && (slice_index text others == c) then Some (take others text) else None
 
 -- what stands before the first comma, and behind it where there is one
 abbrev pub before_comma : List ℕ → List ℕ
@@ -58,9 +60,12 @@ one_operand text = if is_some (after_comma text) then None else Some (trim (befo
 
 -- two operands, apart by a comma
 unfoldable pub two_operands : List ℕ → Option (List ℕ × List ℕ)
-two_operands text = option_and_then (λ more. option_map (λ second. (trim (before_comma text), second)) (one_operand more)) (after_comma text)
+two_operands text =
+    let first = trim (before_comma text) in
+    option_and_then (λ more. option_map (λ second. (first, second)) (one_operand more)) (after_comma text)
 
 -- three operands, apart by commas
 unfoldable pub three_operands : List ℕ → Option (List ℕ × List ℕ × List ℕ)
 three_operands text =
-    option_and_then (λ more. option_map (λ others. (trim (before_comma text), others.0, others.1)) (two_operands more)) (after_comma text)
+    let first = trim (before_comma text) in
+    option_and_then (λ more. option_map (λ others. (first, others.0, others.1)) (two_operands more)) (after_comma text)

@@ -6,5 +6,5 @@ use Rattle.rv_asm.specs.declared.error.AsmError.TheVariants.{Memory, Bad}
 
 -- An error is the want of memory, or tells of the fault that there is.
 abbrev pub IsTold : Option (ℕ × AsmCause) → AsmError → Type 0
-IsTold fault (Memory e) = Unit {0}
+IsTold fault Memory = Unit {0}
 IsTold fault (Bad line c) = fault ≡ Some (line, c)

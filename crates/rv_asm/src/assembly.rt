@@ -8,10 +8,8 @@ ghost use Rattle.rv_asm.specs.Told.{IsTold};
 use crate::error::{AsmCause, AsmError};
 use crate::lines::program_of;
 use crate::program::word_of;
+use sls_base::TEXT_BYTES;
 use std::alloc::{AllocError, Global};
-
-/// The bytes that a text may have.
-const MOST_BYTES: usize = 65_536;
 
 /// The words of a program.
 ///
@@ -24,15 +22,14 @@ pub fn assemble(alloc: Global, text: &[u8]) -> Result<Vec<u32>, AsmError>
     ensures ok { IfOk result (λ words. IsAssembled text.now words.items) }
     ensures bad { IfErr result (IsTold (fault_in text.now)) }
 {
-    if text.len() > MOST_BYTES {
+    if text.len() > TEXT_BYTES {
         return Err(AsmError::Bad {
             line: 0,
             cause: AsmCause::Long,
         });
     }
-    let program = match program_of(alloc, text) {
-        Ok(program) => program,
-        Err(error) => return Err(AsmError::Memory(error)),
+    let Ok(program) = program_of(alloc, text) else {
+        return Err(AsmError::Memory);
     };
     let mut words = Vec::new(alloc);
     for k in 0..program.len() {
@@ -45,9 +42,9 @@ pub fn assemble(alloc: Global, text: &[u8]) -> Result<Vec<u32>, AsmError>
                 });
             }
         };
-        if let Err(error) = push_found(&mut words, found) {
-            return Err(AsmError::Memory(error));
-        }
+        let Ok(()) = push_found(&mut words, found) else {
+            return Err(AsmError::Memory);
+        };
     }
     Ok(words)
 }

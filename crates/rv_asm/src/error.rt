@@ -1,6 +1,5 @@
 //! Why a text is no program.
 
-use std::alloc::AllocError;
 use thiserror::Error;
 
 /// A fault of a line. Where a line has several, the first in this order is told.
@@ -22,11 +21,11 @@ pub enum AsmCause {
 }
 
 /// Why a text isn't assembled.
-#[derive(Debug, Drop, Error)]
+#[derive(Clone, Copy, Debug, Error)]
 pub enum AsmError {
-    /// Memory ran out.
-    #[error(transparent)]
-    Memory(#[from(alloc)] AllocError),
+    /// There was no memory for the words.
+    #[error("no memory for the words of the text")]
+    Memory,
     /// The first line at fault, counted from 1, and its cause. A text that is too long has line 0.
     #[error("line {line} is at fault: {cause:?}")]
     Bad { line: u32, cause: AsmCause },

@@ -1,6 +1,7 @@
 //! An assembler and a printer for RV32I.
 #![tactic(auto)]
 
+mod aim;
 mod assembly;
 mod error;
 pub mod laws;
@@ -17,6 +18,3 @@ mod text;
 pub use assembly::assemble;
 pub use error::{AsmCause, AsmError};
 pub use printing::print;
-
-#[cfg(test)]
-mod tests;

@@ -38,7 +38,7 @@ fn first_line(text: &[u8]) -> (&[u8], Option<&[u8]>)
 
 /// What each line says.
 pub fn program_of(alloc: Global, text: &[u8]) -> Result<Vec<Line<'_>>, AllocError>
-    ensures told { IfOk result (λ v. map (seen view) v.items ≡ program_of text.now) }
+    ensures said { IfOk result (λ v. map (seen view) v.items ≡ program_of text.now) }
     ensures in_range { IfOk result (λ v. All (λ line. IfOk line IsStatement) v.items) }
     ensures few { IfOk result (λ v. vec_len v ≤ length text.now + 1) }
 {

@@ -1,178 +1,139 @@
 //! Mnemonics.
 
-ghost use Rattle.std.specs.Prelude.{◌≡◌, IfSome};
-ghost use Rattle.std.specs.Str.{bytes_eq};
+ghost use Rattle.std.specs.Prelude.{◌≡◌, IfSome, map};
 ghost use Rattle.rv_asm.specs.Names;
+ghost use Rattle.rv_asm.specs.Table.{entry_of};
 
-/// What the first word of an instruction names. `op` is funct3; `alt` is that of SUB, SRA and SRAI.
+use rv_table::Instr;
+
+/// What the first word of an instruction names, or `.word`.
 #[derive(Clone, Copy)]
 pub enum Mnemonic {
+    Jal,
+    Branch { op: u8 },
+    Plain(PlainMnemonic),
+    Word,
+}
+
+/// An instruction that has no target. `op` is funct3; `alt` is that of SUB, SRA and SRAI.
+#[derive(Clone, Copy)]
+pub enum PlainMnemonic {
     Lui,
     Auipc,
-    Jal,
     Jalr,
-    Branch { op: u8 },
     Load { op: u8 },
     Store { op: u8 },
     Immediate { op: u8 },
     Shift { op: u8, alt: bool },
     Register { op: u8, alt: bool },
-    Fence,
-    Ecall,
-    Ebreak,
-    Word,
+    /// An instruction that has no operands.
+    Bare(Instr),
 }
 
-fn is(name: &[u8], wanted: &str) -> bool
-    ensures { result ≡ bytes_eq name.now wanted.now }
-{
-    name == wanted.as_bytes()
-}
+/// Each mnemonic by its name.
+const MNEMONICS: [(&str, Mnemonic); 41] = [
+    ("beq", Mnemonic::Branch { op: 0 }),
+    ("bne", Mnemonic::Branch { op: 1 }),
+    ("blt", Mnemonic::Branch { op: 4 }),
+    ("bge", Mnemonic::Branch { op: 5 }),
+    ("bltu", Mnemonic::Branch { op: 6 }),
+    ("bgeu", Mnemonic::Branch { op: 7 }),
+    ("lb", Mnemonic::Plain(PlainMnemonic::Load { op: 0 })),
+    ("lh", Mnemonic::Plain(PlainMnemonic::Load { op: 1 })),
+    ("lw", Mnemonic::Plain(PlainMnemonic::Load { op: 2 })),
+    ("lbu", Mnemonic::Plain(PlainMnemonic::Load { op: 4 })),
+    ("lhu", Mnemonic::Plain(PlainMnemonic::Load { op: 5 })),
+    ("sb", Mnemonic::Plain(PlainMnemonic::Store { op: 0 })),
+    ("sh", Mnemonic::Plain(PlainMnemonic::Store { op: 1 })),
+    ("sw", Mnemonic::Plain(PlainMnemonic::Store { op: 2 })),
+    ("addi", Mnemonic::Plain(PlainMnemonic::Immediate { op: 0 })),
+    ("slti", Mnemonic::Plain(PlainMnemonic::Immediate { op: 2 })),
+    ("sltiu", Mnemonic::Plain(PlainMnemonic::Immediate { op: 3 })),
+    ("xori", Mnemonic::Plain(PlainMnemonic::Immediate { op: 4 })),
+    ("ori", Mnemonic::Plain(PlainMnemonic::Immediate { op: 6 })),
+    ("andi", Mnemonic::Plain(PlainMnemonic::Immediate { op: 7 })),
+    (
+        "slli",
+        Mnemonic::Plain(PlainMnemonic::Shift { op: 1, alt: false }),
+    ),
+    (
+        "srli",
+        Mnemonic::Plain(PlainMnemonic::Shift { op: 5, alt: false }),
+    ),
+    (
+        "srai",
+        Mnemonic::Plain(PlainMnemonic::Shift { op: 5, alt: true }),
+    ),
+    (
+        "add",
+        Mnemonic::Plain(PlainMnemonic::Register { op: 0, alt: false }),
+    ),
+    (
+        "sub",
+        Mnemonic::Plain(PlainMnemonic::Register { op: 0, alt: true }),
+    ),
+    (
+        "sll",
+        Mnemonic::Plain(PlainMnemonic::Register { op: 1, alt: false }),
+    ),
+    (
+        "slt",
+        Mnemonic::Plain(PlainMnemonic::Register { op: 2, alt: false }),
+    ),
+    (
+        "sltu",
+        Mnemonic::Plain(PlainMnemonic::Register { op: 3, alt: false }),
+    ),
+    (
+        "xor",
+        Mnemonic::Plain(PlainMnemonic::Register { op: 4, alt: false }),
+    ),
+    (
+        "srl",
+        Mnemonic::Plain(PlainMnemonic::Register { op: 5, alt: false }),
+    ),
+    (
+        "sra",
+        Mnemonic::Plain(PlainMnemonic::Register { op: 5, alt: true }),
+    ),
+    (
+        "or",
+        Mnemonic::Plain(PlainMnemonic::Register { op: 6, alt: false }),
+    ),
+    (
+        "and",
+        Mnemonic::Plain(PlainMnemonic::Register { op: 7, alt: false }),
+    ),
+    ("lui", Mnemonic::Plain(PlainMnemonic::Lui)),
+    ("auipc", Mnemonic::Plain(PlainMnemonic::Auipc)),
+    ("jal", Mnemonic::Jal),
+    ("jalr", Mnemonic::Plain(PlainMnemonic::Jalr)),
+    ("fence", Mnemonic::Plain(PlainMnemonic::Bare(Instr::Fence))),
+    ("ecall", Mnemonic::Plain(PlainMnemonic::Bare(Instr::Ecall))),
+    (
+        "ebreak",
+        Mnemonic::Plain(PlainMnemonic::Bare(Instr::Ebreak)),
+    ),
+    (".word", Mnemonic::Word),
+];
 
 /// The mnemonic of a word of the text.
 #[tactic(auto, unfolding(crate::specs::Names::mnemonic_of))]
 pub fn mnemonic_of(name: &[u8]) -> Option<Mnemonic>
-    ensures told { result ≡ Names.mnemonic_of name.now }
+    ensures mnemonic { result ≡ Names.mnemonic_of name.now }
     ensures in_range { IfSome result Names.IsMnemonic }
 {
-    if let Some(found) = branch(name) {
-        return Some(found);
-    }
-    if let Some(found) = access(name) {
-        return Some(found);
-    }
-    if let Some(found) = immediate(name) {
-        return Some(found);
-    }
-    if let Some(found) = register(name) {
-        return Some(found);
-    }
-    other(name)
+    named(&MNEMONICS, name)
 }
 
-fn branch(name: &[u8]) -> Option<Mnemonic>
-    ensures told { result ≡ Names.named Names.branches name.now }
-    ensures in_range { IfSome result Names.IsMnemonic }
+/// What a table has for a name.
+fn named(table: &[(&str, Mnemonic)], name: &[u8]) -> Option<Mnemonic>
+    ensures { result ≡ Names.named (map entry_of table.now) name.now }
 {
-    if is(name, "beq") {
-        Some(Mnemonic::Branch { op: 0 })
-    } else if is(name, "bne") {
-        Some(Mnemonic::Branch { op: 1 })
-    } else if is(name, "blt") {
-        Some(Mnemonic::Branch { op: 4 })
-    } else if is(name, "bge") {
-        Some(Mnemonic::Branch { op: 5 })
-    } else if is(name, "bltu") {
-        Some(Mnemonic::Branch { op: 6 })
-    } else if is(name, "bgeu") {
-        Some(Mnemonic::Branch { op: 7 })
-    } else {
-        None
+    for (known, mnemonic) in table {
+        if known.as_bytes() == name {
+            return Some(*mnemonic);
+        }
     }
-}
-
-fn access(name: &[u8]) -> Option<Mnemonic>
-    ensures told { result ≡ Names.named Names.accesses name.now }
-    ensures in_range { IfSome result Names.IsMnemonic }
-{
-    if is(name, "lb") {
-        Some(Mnemonic::Load { op: 0 })
-    } else if is(name, "lh") {
-        Some(Mnemonic::Load { op: 1 })
-    } else if is(name, "lw") {
-        Some(Mnemonic::Load { op: 2 })
-    } else if is(name, "lbu") {
-        Some(Mnemonic::Load { op: 4 })
-    } else if is(name, "lhu") {
-        Some(Mnemonic::Load { op: 5 })
-    } else if is(name, "sb") {
-        Some(Mnemonic::Store { op: 0 })
-    } else if is(name, "sh") {
-        Some(Mnemonic::Store { op: 1 })
-    } else if is(name, "sw") {
-        Some(Mnemonic::Store { op: 2 })
-    } else {
-        None
-    }
-}
-
-fn immediate(name: &[u8]) -> Option<Mnemonic>
-    ensures told { result ≡ Names.named Names.immediates name.now }
-    ensures in_range { IfSome result Names.IsMnemonic }
-{
-    if is(name, "addi") {
-        Some(Mnemonic::Immediate { op: 0 })
-    } else if is(name, "slti") {
-        Some(Mnemonic::Immediate { op: 2 })
-    } else if is(name, "sltiu") {
-        Some(Mnemonic::Immediate { op: 3 })
-    } else if is(name, "xori") {
-        Some(Mnemonic::Immediate { op: 4 })
-    } else if is(name, "ori") {
-        Some(Mnemonic::Immediate { op: 6 })
-    } else if is(name, "andi") {
-        Some(Mnemonic::Immediate { op: 7 })
-    } else if is(name, "slli") {
-        Some(Mnemonic::Shift { op: 1, alt: false })
-    } else if is(name, "srli") {
-        Some(Mnemonic::Shift { op: 5, alt: false })
-    } else if is(name, "srai") {
-        Some(Mnemonic::Shift { op: 5, alt: true })
-    } else {
-        None
-    }
-}
-
-fn register(name: &[u8]) -> Option<Mnemonic>
-    ensures told { result ≡ Names.named Names.registers name.now }
-    ensures in_range { IfSome result Names.IsMnemonic }
-{
-    if is(name, "add") {
-        Some(Mnemonic::Register { op: 0, alt: false })
-    } else if is(name, "sub") {
-        Some(Mnemonic::Register { op: 0, alt: true })
-    } else if is(name, "sll") {
-        Some(Mnemonic::Register { op: 1, alt: false })
-    } else if is(name, "slt") {
-        Some(Mnemonic::Register { op: 2, alt: false })
-    } else if is(name, "sltu") {
-        Some(Mnemonic::Register { op: 3, alt: false })
-    } else if is(name, "xor") {
-        Some(Mnemonic::Register { op: 4, alt: false })
-    } else if is(name, "srl") {
-        Some(Mnemonic::Register { op: 5, alt: false })
-    } else if is(name, "sra") {
-        Some(Mnemonic::Register { op: 5, alt: true })
-    } else if is(name, "or") {
-        Some(Mnemonic::Register { op: 6, alt: false })
-    } else if is(name, "and") {
-        Some(Mnemonic::Register { op: 7, alt: false })
-    } else {
-        None
-    }
-}
-
-fn other(name: &[u8]) -> Option<Mnemonic>
-    ensures told { result ≡ Names.named Names.others name.now }
-    ensures in_range { IfSome result Names.IsMnemonic }
-{
-    if is(name, "lui") {
-        Some(Mnemonic::Lui)
-    } else if is(name, "auipc") {
-        Some(Mnemonic::Auipc)
-    } else if is(name, "jal") {
-        Some(Mnemonic::Jal)
-    } else if is(name, "jalr") {
-        Some(Mnemonic::Jalr)
-    } else if is(name, "fence") {
-        Some(Mnemonic::Fence)
-    } else if is(name, "ecall") {
-        Some(Mnemonic::Ecall)
-    } else if is(name, "ebreak") {
-        Some(Mnemonic::Ebreak)
-    } else if is(name, ".word") {
-        Some(Mnemonic::Word)
-    } else {
-        None
-    }
+    None
 }

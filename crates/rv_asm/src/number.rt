@@ -50,14 +50,12 @@ fn magnitude_of(digits: &[u8], base: u32, negative: bool) -> Option<Number>
 }
 
 /// The number as a word, where it is from `-below` to `above`.
-pub fn within(number: Number, below: u64, above: u64) -> Option<u32>
-    requires below { below < 2 ^ 32 }
-    requires above { above < 2 ^ 32 }
-    ensures told { result ≡ Operand.within below above number }
+pub fn within(number: Number, below: u32, above: u32) -> Option<u32>
+    ensures word { result ≡ Operand.within below above number }
     ensures in_range { IfSome result (Operand.IsWithin below above) }
 {
     let limit = if number.negative { below } else { above };
-    if number.magnitude > limit {
+    if number.magnitude > u64::from(limit) {
         return None;
     }
     let magnitude = number.magnitude as u32;
@@ -69,10 +67,8 @@ pub fn within(number: Number, below: u64, above: u64) -> Option<u32>
 }
 
 /// The same for an even number.
-pub fn even_within(number: Number, below: u64, above: u64) -> Option<u32>
-    requires below { below < 2 ^ 32 }
-    requires above { above < 2 ^ 32 }
-    ensures told { result ≡ Operand.even_within below above number }
+pub fn even_within(number: Number, below: u32, above: u32) -> Option<u32>
+    ensures word { result ≡ Operand.even_within below above number }
     ensures in_range { IfSome result (Operand.IsWithin below above) }
     ensures even { IfSome result (λ w. w % 2 ≡ 0) }
 {

@@ -14,7 +14,7 @@ const NAME_LENGTH: usize = 32;
 /// The number of a register: `x0` to `x31`.
 #[tactic(auto, unfolding(crate::specs::Operand::register_of))]
 pub fn register_of(text: &[u8]) -> Option<u8>
-    ensures told { result ≡ Operand.register_of text.now }
+    ensures parsed { result ≡ Operand.register_of text.now }
     ensures in_range { IfSome result (λ r. r < 32) }
 {
     match text {
@@ -46,7 +46,12 @@ fn is_name_byte(byte: u8) -> bool
 fn are_name_bytes(text: &[u8]) -> bool
     ensures { result ≡ list_all Operand.is_name_byte text.now }
 {
-    text.iter().all(|byte| is_name_byte(*byte))
+    for byte in text {
+        if !is_name_byte(*byte) {
+            return false;
+        }
+    }
+    true
 }
 
 /// Whether a text is in the form of a label's name.

@@ -1,6 +1,6 @@
 //! From words to a text.
 
-ghost use Rattle.std.specs.Prelude.{◌≡◌, ◌<◌, [], ◌∷◌, IfOk, string_bytes};
+ghost use Rattle.std.specs.Prelude.{◌≡◌, ◌<◌, [], ◌∷◌, ◌++◌, IfOk, OnOk, codes, string_bytes};
 ghost use Rattle.rv_table.specs.Decoded.{decoded};
 ghost use Rattle.rv_table.specs.Table.{IsInstr};
 ghost use Rattle.rv_asm.specs.Printed as P;
@@ -20,117 +20,120 @@ const UPPER_SHIFT: u32 = 12;
 pub fn print(alloc: Global, words: &[u32]) -> Result<Vec<u8>, AllocError>
     ensures { IfOk result (λ text. text.items ≡ P.text_of words.now) }
 {
-    let mut text = Vec::new(alloc);
+    let mut text = String::new(alloc);
     for word in words {
-        let line = word_text(alloc, *word)?;
-        text.extend_from_slice(line.as_bytes())?;
-        text.push(b'\n')?;
+        write_word(&mut text, *word)?;
     }
-    Ok(text)
+    Ok(text.into_bytes())
 }
 
 /// A word as its instruction; an illegal word, and a FENCE with other fields, as a number.
-fn word_text(alloc: Global, word: u32) -> Result<String, AllocError>
-    ensures { IfOk result (λ text. string_bytes text ≡ P.shown word (decoded word)) }
+fn write_word(text: &mut String, word: u32) -> Result<(), AllocError>
+    ensures { OnOk result (string_bytes text.new ≡ string_bytes text.old ++ P.line_text word) }
 {
     match decode(word) {
-        None => data_text(alloc, word),
-        Some(Instr::Fence) if word != encode(Instr::Fence) => data_text(alloc, word),
-        Some(instr) => instruction_text(alloc, instr),
+        None => write_data(text, word),
+        Some(Instr::Fence) if word != encode(Instr::Fence) => write_data(text, word),
+        Some(instr) => write_instruction(text, instr),
     }
 }
 
 /// A word as a number.
-fn data_text(alloc: Global, word: u32) -> Result<String, AllocError>
-    ensures { IfOk result (λ text. string_bytes text ≡ P.data_text word) }
+fn write_data(text: &mut String, word: u32) -> Result<(), AllocError>
+    ensures { OnOk result (string_bytes text.new ≡ string_bytes text.old ++ (P.data_text word ++ codes "\n")) }
 {
     let [a, b, c, d] = word.to_be_bytes();
-    format!(in alloc; ".word 0x{a:02x}{b:02x}{c:02x}{d:02x}")
+    write!(text, ".word 0x{a:02x}{b:02x}{c:02x}{d:02x}\n")
 }
 
 /// An instruction.
 #[tactic(auto, unfolding(crate::specs::Printed::instruction_text))]
-fn instruction_text(alloc: Global, instr: Instr) -> Result<String, AllocError>
+fn write_instruction(text: &mut String, instr: Instr) -> Result<(), AllocError>
     requires { IsInstr instr }
-    ensures { IfOk result (λ text. string_bytes text ≡ P.instruction_text instr) }
+    ensures { OnOk result (string_bytes text.new ≡ string_bytes text.old ++ (P.instruction_text instr ++ codes "\n")) }
 {
     match instr {
-        Instr::Lui { rd, imm } => with_upper(alloc, "lui", rd, imm),
-        Instr::Auipc { rd, imm } => with_upper(alloc, "auipc", rd, imm),
-        Instr::Jal { rd, imm } => with_offset(alloc, "jal", rd, imm),
-        Instr::Jalr { rd, rs1, imm } => with_memory(alloc, "jalr", rd, imm, rs1),
+        Instr::Lui { rd, imm } => with_upper(text, "lui", rd, imm),
+        Instr::Auipc { rd, imm } => with_upper(text, "auipc", rd, imm),
+        Instr::Jal { rd, imm } => with_offset(text, "jal", rd, imm),
+        Instr::Jalr { rd, rs1, imm } => with_memory(text, "jalr", rd, imm, rs1),
         Instr::Branch { op, rs1, rs2, imm } => {
-            with_immediate(alloc, branch_name(op), rs1, rs2, imm)
+            with_immediate(text, branch_name(op), rs1, rs2, imm)
         }
-        Instr::Load { op, rd, rs1, imm } => with_memory(alloc, load_name(op), rd, imm, rs1),
-        Instr::Store { op, rs1, rs2, imm } => with_memory(alloc, store_name(op), rs2, imm, rs1),
+        Instr::Load { op, rd, rs1, imm } => with_memory(text, load_name(op), rd, imm, rs1),
+        Instr::Store { op, rs1, rs2, imm } => with_memory(text, store_name(op), rs2, imm, rs1),
         Instr::OpImm {
             op,
             alt,
             rd,
             rs1,
             imm,
-        } => with_immediate(alloc, immediate_name(op, alt), rd, rs1, imm),
+        } => with_immediate(text, immediate_name(op, alt), rd, rs1, imm),
         Instr::Op {
             op,
             alt,
             rd,
             rs1,
             rs2,
-        } => with_registers(alloc, register_name(op, alt), rd, rs1, rs2),
-        Instr::Fence => format!(in alloc; "fence"),
-        Instr::Ecall => format!(in alloc; "ecall"),
-        Instr::Ebreak => format!(in alloc; "ebreak"),
+        } => with_registers(text, register_name(op, alt), rd, rs1, rs2),
+        Instr::Fence => text.push_str("fence\n"),
+        Instr::Ecall => text.push_str("ecall\n"),
+        Instr::Ebreak => text.push_str("ebreak\n"),
     }
 }
 
 /// A register and the upper 20 bits.
-fn with_upper(alloc: Global, name: &str, rd: u8, imm: u32) -> Result<String, AllocError>
-    ensures { IfOk result (λ text. string_bytes text ≡ P.written name.now (P.register_text rd ∷ P.upper_text imm ∷ [])) }
+fn with_upper(text: &mut String, name: &str, rd: u8, imm: u32) -> Result<(), AllocError>
+    ensures { let line = P.written name.now (P.register_text rd ∷ P.upper_text imm ∷ []) ++ codes "\n" in
+        OnOk result (string_bytes text.new ≡ string_bytes text.old ++ line) }
 {
     let upper = imm >> UPPER_SHIFT;
-    format!(in alloc; "{name} x{rd}, {upper}")
+    write!(text, "{name} x{rd}, {upper}\n")
 }
 
 /// A register and an offset.
-fn with_offset(alloc: Global, name: &str, rd: u8, imm: u32) -> Result<String, AllocError>
-    ensures { IfOk result (λ text. string_bytes text ≡ P.written name.now (P.register_text rd ∷ P.signed_text imm ∷ [])) }
+fn with_offset(text: &mut String, name: &str, rd: u8, imm: u32) -> Result<(), AllocError>
+    ensures { let line = P.written name.now (P.register_text rd ∷ P.signed_text imm ∷ []) ++ codes "\n" in
+        OnOk result (string_bytes text.new ≡ string_bytes text.old ++ line) }
 {
     let offset = imm.cast_signed();
-    format!(in alloc; "{name} x{rd}, {offset}")
+    write!(text, "{name} x{rd}, {offset}\n")
 }
 
 /// A register and a place in memory.
 fn with_memory(
-    alloc: Global,
+    text: &mut String,
     name: &str,
     register: u8,
     imm: u32,
     base: u8,
-) -> Result<String, AllocError>
-    ensures { IfOk result (λ text. string_bytes text ≡ P.written name.now (P.register_text register ∷ P.memory_text imm base ∷ [])) }
+) -> Result<(), AllocError>
+    ensures { let line = P.written name.now (P.register_text register ∷ P.memory_text imm base ∷ []) ++ codes "\n" in
+        OnOk result (string_bytes text.new ≡ string_bytes text.old ++ line) }
 {
     let offset = imm.cast_signed();
-    format!(in alloc; "{name} x{register}, {offset}(x{base})")
+    write!(text, "{name} x{register}, {offset}(x{base})\n")
 }
 
 /// Two registers and an immediate.
 fn with_immediate(
-    alloc: Global,
+    text: &mut String,
     name: &str,
     first: u8,
     second: u8,
     imm: u32,
-) -> Result<String, AllocError>
-    ensures { IfOk result (λ text. string_bytes text ≡ P.written name.now (P.register_text first ∷ P.register_text second ∷ P.signed_text imm ∷ [])) }
+) -> Result<(), AllocError>
+    ensures { let operands = P.register_text first ∷ P.register_text second ∷ P.signed_text imm ∷ [] in
+        OnOk result (string_bytes text.new ≡ string_bytes text.old ++ (P.written name.now operands ++ codes "\n")) }
 {
     let immediate = imm.cast_signed();
-    format!(in alloc; "{name} x{first}, x{second}, {immediate}")
+    write!(text, "{name} x{first}, x{second}, {immediate}\n")
 }
 
 /// Three registers.
-fn with_registers(alloc: Global, name: &str, rd: u8, rs1: u8, rs2: u8) -> Result<String, AllocError>
-    ensures { IfOk result (λ text. string_bytes text ≡ P.written name.now (P.register_text rd ∷ P.register_text rs1 ∷ P.register_text rs2 ∷ [])) }
+fn with_registers(text: &mut String, name: &str, rd: u8, rs1: u8, rs2: u8) -> Result<(), AllocError>
+    ensures { let operands = P.register_text rd ∷ P.register_text rs1 ∷ P.register_text rs2 ∷ [] in
+        OnOk result (string_bytes text.new ≡ string_bytes text.old ++ (P.written name.now operands ++ codes "\n")) }
 {
-    format!(in alloc; "{name} x{rd}, x{rs1}, x{rs2}")
+    write!(text, "{name} x{rd}, x{rs1}, x{rs2}\n")
 }

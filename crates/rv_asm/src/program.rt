@@ -1,21 +1,19 @@
 //! Labels and words of a program.
 
-ghost use Rattle.std.specs.Prelude.{◌≡◌, ◌≤◌, true, false, Some, None, Ok, IfOk, IfErr, IfSome, IfNone, map, length};
+ghost use Rattle.std.specs.Prelude.{◌≡◌, ◌≤◌, ◌-◌, ◌%◌, true, false, Some, None, Ok, IfOk, IfErr, IfSome, IfNone};
+ghost use Rattle.std.specs.Prelude.{map, length};
 ghost use Rattle.rv_table.specs.Table.{IsInstr};
+ghost use Rattle.rv_asm.specs.Operand.{IsWithin};
 ghost use Rattle.rv_asm.specs.Program as P;
 ghost use Rattle.rv_asm.specs.Statement as S;
 ghost use Rattle.rv_asm.specs.View.{seen, view, IsAimed, IsStatement};
 
+use crate::aim::{STEP, reach, with_offset};
 use crate::error::AsmCause;
 use crate::lines::Line;
 use crate::statement::Statement;
 use rv_table::{Instr, encode};
-
-/// The words that a program may have.
-const MOST_WORDS: usize = 1024;
-
-/// The bytes of a word.
-const WORD_BYTES: usize = 4;
+use sls_base::{INSTRUCTION_BYTES, PROGRAM_WORDS};
 
 fn defines(line: &Line<'_>, name: &[u8]) -> bool
     ensures { result ≡ P.defines name.now (seen view line.now) }
@@ -27,7 +25,7 @@ fn defines(line: &Line<'_>, name: &[u8]) -> bool
 }
 
 fn words_of(line: &Line<'_>) -> usize
-    ensures told { result ≡ P.words_of (seen view line.now) }
+    ensures count { result ≡ P.words_of (seen view line.now) }
     ensures few { result ≤ 1 }
 {
     match line {
@@ -38,7 +36,7 @@ fn words_of(line: &Line<'_>) -> usize
 
 /// The words before the first definition of a label.
 fn place_of(program: &[Line<'_>], name: &[u8]) -> Option<usize>
-    ensures told { result ≡ P.place_of name.now (map (seen view) program.now) }
+    ensures place { result ≡ P.place_of name.now (map (seen view) program.now) }
     ensures in_program { IfSome result (λ place. place ≤ length program.now) }
 {
     let mut place = 0;
@@ -56,68 +54,46 @@ fn counted(at: usize, word: u32) -> Result<Option<u32>, AsmCause>
     ensures ok { IfOk result (λ found. (found ≡ Some word) × (P.long at ≡ None)) }
     ensures err { IfErr result (λ c. P.long at ≡ Some c) }
 {
-    if at < MOST_WORDS {
+    if at < PROGRAM_WORDS {
         Ok(Some(word))
     } else {
         Err(AsmCause::Long)
     }
 }
 
-/// How far back a branch or jal reaches.
-fn reach(instr: Instr) -> usize
-    requires { IsAimed instr }
-    ensures { result ≡ S.reach instr }
+/// Where a word begins, in bytes.
+fn start_of(word: usize) -> u32
+    requires { word ≤ 65537 }
+    ensures { result ≡ P.start_of word }
 {
-    match instr {
-        Instr::Jal { .. } => 1_048_576,
-        _ => 4096,
-    }
+    word as u32 * INSTRUCTION_BYTES
 }
 
-/// Whether a branch or jal in the word `at` reaches the word `place`.
-fn reaches(instr: Instr, at: usize, place: usize) -> bool
+/// The offset of a branch or jal in the word `at` to the word `place`, where it reaches that.
+fn offset(instr: Instr, at: usize, place: usize) -> Option<u32>
     requires aimed { IsAimed instr }
     requires at { at ≤ 65537 }
     requires place { place ≤ 65537 }
-    ensures { result ≡ P.reaches instr at place }
-{
-    if place < at {
-        WORD_BYTES * (at - place) <= reach(instr)
-    } else {
-        WORD_BYTES * (place - at) + 2 <= reach(instr)
-    }
-}
-
-/// From the word `at` to the word `place`.
-fn offset(at: usize, place: usize) -> u32
-    requires at { at ≤ 65537 }
-    requires place { place ≤ 65537 }
-    ensures { result ≡ P.offset at place }
-{
-    let to = (WORD_BYTES * place) as u32;
-    to.wrapping_sub((WORD_BYTES * at) as u32)
-}
-
-/// A branch or jal in the word `at` that goes to the word `place`, where it reaches that.
-fn aimed(instr: Instr, at: usize, place: usize) -> Option<Instr>
-    requires aimed { IsAimed instr }
-    requires at { at ≤ 65537 }
-    requires place { place ≤ 65537 }
-    ensures some { IfSome result (λ i. (P.reaches instr at place ≡ true) × (i ≡ S.with_offset instr (P.offset at place))) }
+    ensures some { IfSome result (λ imm. (P.reaches instr at place ≡ true) × (imm ≡ P.offset at place)) }
     ensures none { IfNone result (P.reaches instr at place ≡ false) }
-    ensures in_range { IfSome result IsInstr }
+    ensures in_range { IfSome result (IsWithin (S.reach instr) (S.reach instr - 2)) }
+    ensures even { IfSome result (λ imm. imm % 2 ≡ 0) }
 {
-    if !reaches(instr, at, place) {
-        return None;
-    }
-    let imm = offset(at, place);
-    match instr {
-        Instr::Jal { rd, .. } => Some(Instr::Jal { rd, imm }),
-        Instr::Branch { op, rs1, rs2, .. } => Some(Instr::Branch { op, rs1, rs2, imm }),
-        _ => unreachable!(),
+    let from = start_of(at);
+    let to = start_of(place);
+    let reached = if to < from {
+        from - to
+    } else {
+        to - from + STEP
+    } <= reach(instr);
+    if reached {
+        Some(to.wrapping_sub(from))
+    } else {
+        None
     }
 }
 
+/// The word of an instruction.
 fn word(instr: Instr) -> u32
     requires { IsInstr instr }
     ensures { P.IsWordOf instr result }
@@ -168,9 +144,14 @@ fn aimed_word(
     ensures ok { IfOk result (λ found.
         (P.aim_fault instr at (P.place_of label.now (map (seen view) program.now)) ≡ None)
         × P.GivesWord (map (seen view) program.now) at (Ok (S.Aims instr label.now)) found) }
-    ensures err { IfErr result (λ c. P.aim_fault instr at (P.place_of label.now (map (seen view) program.now)) ≡ Some c) }
+    ensures err { IfErr result (λ c.
+        P.aim_fault instr at (P.place_of label.now (map (seen view) program.now)) ≡ Some c) }
 {
-    let place = place_of(program, label).ok_or(AsmCause::Label)?;
-    let instr = aimed(instr, at, place).ok_or(AsmCause::Number)?;
-    counted(at, word(instr))
+    let Some(place) = place_of(program, label) else {
+        return Err(AsmCause::Label);
+    };
+    match offset(instr, at, place) {
+        Some(imm) => counted(at, word(with_offset(instr, imm))),
+        None => Err(AsmCause::Number),
+    }
 }

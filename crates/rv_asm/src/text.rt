@@ -97,8 +97,10 @@ pub fn one_operand(text: &[u8]) -> Option<&[u8]>
 pub fn two_operands(text: &[u8]) -> Option<(&[u8], &[u8])>
     ensures { option_map (λ p. (p.0.now, p.1.now)) result ≡ Text.two_operands text.now }
 {
-    let (first, more) = split_comma(text);
-    let second = one_operand(more?)?;
+    let (first, Some(more)) = split_comma(text) else {
+        return None;
+    };
+    let second = one_operand(more)?;
     Some((first, second))
 }
 
@@ -107,7 +109,9 @@ pub fn two_operands(text: &[u8]) -> Option<(&[u8], &[u8])>
 pub fn three_operands(text: &[u8]) -> Option<(&[u8], &[u8], &[u8])>
     ensures { option_map (λ p. (p.0.now, p.1.now, p.2.now)) result ≡ Text.three_operands text.now }
 {
-    let (first, more) = split_comma(text);
-    let (second, third) = two_operands(more?)?;
+    let (first, Some(more)) = split_comma(text) else {
+        return None;
+    };
+    let (second, third) = two_operands(more)?;
     Some((first, second, third))
 }
