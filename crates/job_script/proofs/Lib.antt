@@ -3,6 +3,6 @@ pub mod Numbers
 pub mod Progress
 pub mod Ranges
 pub mod Order
-pub mod Places
+pub mod Sections
 pub mod Misplaced
 pub mod Verdicts

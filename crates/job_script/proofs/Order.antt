@@ -6,9 +6,9 @@ use Rattle.job_script.specs.declared.fault.JobCause.{JobCause}
 use Rattle.job_script.specs.declared.fault.JobCause.TheVariants.{Order}
 use Rattle.job_script.specs.declared.line.Line.{Line}
 use Rattle.job_script.specs.declared.line.Line.TheVariants.{Cores, Code, Run, Checkpoint, Cut, Take, End}
-use Rattle.job_script.specs.declared.place.Place.{Place}
-use Rattle.job_script.specs.declared.place.Place.TheVariants.{Start, Program, Actions, Ended}
-use Rattle.job_script.specs.Steps.{◌>>=◌}
+use Rattle.job_script.specs.declared.section.Section.{Section}
+use Rattle.job_script.specs.declared.section.Section.TheVariants.{Start, Program, Actions, Ended}
+use Rattle.job_script.specs.UntilFault.{◌>>=◌}
 use Rattle.job_script.specs.Form.{after, after_word, after_action}
 use Rattle.job_script.specs.Job.{words_of, actions_of, draws_of, IsAction, IsJob}
 use Rattle.job_script.proofs.Ranges.{InRange}
@@ -31,8 +31,8 @@ record IsProgram (before : ℕ) (lines : List Line) : Type 0 where
   act : AllByRecursion IsAction actions
   draws : draws_of actions ≤ 2000000
 
--- what the lines are that may follow at a place
-Follows : Place → List Line → Type 0
+-- what the lines are that may follow in a section
+Follows : Section → List Line → Type 0
 Follows Start lines = (others : List Line) × (lines ≡ Cores 1 ∷ others) × IsProgram 0 others
 Follows (Program words) lines = words ≤ 1024 → IsProgram words lines
 Follows (Actions draws) lines = draws ≤ 2000000 → AreActions draws lines
@@ -48,11 +48,11 @@ pub found : {A B : Type 0} (f : A → Result B JobCause) (read : Result A JobCau
 found f (Err cause) y h = cc
 found f (Ok x) y h = (x, refl, h)
 
-abbrev to_place : Place → Result Place JobCause
-to_place p = Ok p
+abbrev to_section : Section → Result Section JobCause
+to_section p = Ok p
 
-at_place : (p q : Place) (others : List Line) → to_place p ≡ to_place q → Follows q others → Follows p others
-at_place p q others e f = let same : q ≡ p = cc in let P : Place → Type 0 = λ r. Follows r others in subst P same f
+at_section : (p q : Section) (others : List Line) → to_section p ≡ to_section q → Follows q others → Follows p others
+at_section p q others e f = let same : q ≡ p = cc in let P : Section → Type 0 = λ r. Follows r others in subst P same f
 
 -- an action that takes no draw
 plain : (draws : ℕ) (line : Line) (others : List Line) → IsAction line → ((lines : List Line) → draws_of (line ∷ lines) ≡ draws_of lines) → AreActions draws others → AreActions draws (line ∷ others)
@@ -63,23 +63,23 @@ plain draws line others is none rest = record {
   few = rw none rest.few;
 }
 
-action_step : (draws : ℕ) (line : Line) (next : Place) (others : List Line) → after_action draws line ≡ Ok next → InRange line → Follows next others → draws ≤ 2000000 → AreActions draws (line ∷ others)
+action_step : (draws : ℕ) (line : Line) (next : Section) (others : List Line) → after_action draws line ≡ Ok next → InRange line → Follows next others → draws ≤ 2000000 → AreActions draws (line ∷ others)
 unfolding Follows
 action_step draws (Run n) next others e is f le =
     let went = kept _ (Ok (Actions (draws + n))) _ _ e in
-    let rest = at_place (Actions (draws + n)) next others went.1 f (leb-true _ _ went.0) in
+    let rest = at_section (Actions (draws + n)) next others went.1 f (leb-true _ _ went.0) in
     record {
       actions = Run n ∷ rest.actions;
       form = ap (λ lines. Run n ∷ lines) rest.form;
       act = (is, rest.act);
       few = omega (arith, rest.few);
     }
-action_step draws Checkpoint next others e is f le = plain draws Checkpoint others is (λ _. refl) (at_place (Actions draws) next others e f le)
-action_step draws (Cut seed) next others e is f le = plain draws (Cut seed) others is (λ _. refl) (at_place (Actions draws) next others e f le)
-action_step draws (Take channel n) next others e is f le = plain draws (Take channel n) others is (λ _. refl) (at_place (Actions draws) next others e f le)
+action_step draws Checkpoint next others e is f le = plain draws Checkpoint others is (λ _. refl) (at_section (Actions draws) next others e f le)
+action_step draws (Cut seed) next others e is f le = plain draws (Cut seed) others is (λ _. refl) (at_section (Actions draws) next others e f le)
+action_step draws (Take channel n) next others e is f le = plain draws (Take channel n) others is (λ _. refl) (at_section (Actions draws) next others e f le)
 action_step draws End next others e is f le = record {
   actions = [];
-  form = ap (λ lines. End ∷ lines) (at_place Ended next others e f);
+  form = ap (λ lines. End ∷ lines) (at_section Ended next others e f);
   act = tt;
   few = omega arith;
 }
@@ -87,7 +87,7 @@ action_step draws (Cores n) next others e is f le = absurd (cc)
 action_step draws (Code word) next others e is f le = absurd (cc)
 
 -- the first action
-first_action : (words : ℕ) (line : Line) (next : Place) (others : List Line) → cond (ltb 0 words) (after_action 0 line) (Err Order) ≡ Ok next → InRange line → Follows next others → words ≤ 1024 → IsProgram words (line ∷ others)
+first_action : (words : ℕ) (line : Line) (next : Section) (others : List Line) → cond (ltb 0 words) (after_action 0 line) (Err Order) ≡ Ok next → InRange line → Follows next others → words ≤ 1024 → IsProgram words (line ∷ others)
 first_action words line next others e is f le =
     let went = kept _ (after_action 0 line) _ _ e in
     let rest = action_step 0 line next others went.1 is f (omega arith) in
@@ -102,11 +102,11 @@ first_action words line next others e is f le =
       draws = omega (arith, rest.few);
     }
 
-word_step : (words : ℕ) (line : Line) (next : Place) (others : List Line) → after_word words line ≡ Ok next → InRange line → Follows next others → words ≤ 1024 → IsProgram words (line ∷ others)
+word_step : (words : ℕ) (line : Line) (next : Section) (others : List Line) → after_word words line ≡ Ok next → InRange line → Follows next others → words ≤ 1024 → IsProgram words (line ∷ others)
 unfolding Follows
 word_step words (Code word) next others e is f le =
     let went = kept _ (Ok (Program (words + 1))) _ _ e in
-    let rest = at_place (Program (words + 1)) next others went.1 f (omega (arith, ltb-true _ _ went.0)) in
+    let rest = at_section (Program (words + 1)) next others went.1 f (omega (arith, ltb-true _ _ went.0)) in
     record {
       words = word ∷ rest.words;
       actions = rest.actions;
@@ -119,10 +119,10 @@ word_step words (Code word) next others e is f le =
     }
 word_step words line next others e is f le = first_action words line next others e is f le
 
-step : (place : Place) (line : Line) (next : Place) (others : List Line) → after place line ≡ Ok next → InRange line → Follows next others → Follows place (line ∷ others)
+step : (section : Section) (line : Line) (next : Section) (others : List Line) → after section line ≡ Ok next → InRange line → Follows next others → Follows section (line ∷ others)
 unfolding Follows
 step Start (Cores n) next others e is f =
-    (others, ap (λ (m : ℕ). Cores m ∷ others) is, at_place (Program 0) next others e f (omega arith))
+    (others, ap (λ (m : ℕ). Cores m ∷ others) is, at_section (Program 0) next others e f (omega arith))
 step Start line next others e is f = absurd (cc)
 step (Program words) line next others e is f = word_step words line next others e is f
 step (Actions draws) line next others e is f = action_step draws line next others e is f
@@ -177,20 +177,20 @@ job_of_parts others parts =
       draws = rw draws parts.draws;
     }
 
--- the place behind some lines
-abbrev pub places : Place → List Line → Result Place JobCause
-places place [] = Ok place
-places place (line ∷ more) = after place line >>= (λ next. places next more)
+-- the section behind some lines
+abbrev pub behind : Section → List Line → Result Section JobCause
+behind section [] = Ok section
+behind section (line ∷ more) = after section line >>= (λ next. behind next more)
 
-follows : (place : Place) (lines : List Line) → places place lines ≡ Ok Ended → AllByRecursion InRange lines → Follows place lines
+follows : (section : Section) (lines : List Line) → behind section lines ≡ Ok Ended → AllByRecursion InRange lines → Follows section lines
 unfolding Follows
-follows place [] e fits = at_place place Ended [] e refl
-follows place (line ∷ more) e fits =
-    let one = found (λ next. places next more) (after place line) Ended e in
-    step place line one.0 more one.1 fits.0 (follows one.0 more one.2 fits.1)
+follows section [] e fits = at_section section Ended [] e refl
+follows section (line ∷ more) e fits =
+    let one = found (λ next. behind next more) (after section line) Ended e in
+    step section line one.0 more one.1 fits.0 (follows one.0 more one.2 fits.1)
 
-pub job_of_places : (lines : List Line) → places Start lines ≡ Ok Ended → AllByRecursion InRange lines → IsJob lines
+pub job_of_end : (lines : List Line) → behind Start lines ≡ Ok Ended → AllByRecursion InRange lines → IsJob lines
 unfolding Follows
-job_of_places lines e fits =
+job_of_end lines e fits =
     let parts = follows Start lines e fits in
     let P : List Line → Type 0 = λ l. IsJob l in subst P (sym parts.1) (job_of_parts parts.0 parts.2)

@@ -5,7 +5,7 @@ use Rattle.std.specs.Str.Parse.{digits_value}
 use Rattle.job_script.specs.declared.fault.JobCause.{JobCause}
 use Rattle.job_script.specs.declared.line.Line.{Line}
 use Rattle.job_script.specs.declared.line.Line.TheVariants.{Cores, Code, Run, Checkpoint, Cut, Take, End}
-use Rattle.job_script.specs.Steps.{◌>>=◌}
+use Rattle.job_script.specs.UntilFault.{◌>>=◌}
 use Rattle.job_script.specs.Text.{all_digits, value_of, or_fault, number_of, word_of}
 use Rattle.job_script.specs.Lines.{cores_of, take_of, line_with, line_of, said_by}
 use Rattle.job_script.specs.Job.{IsAction}

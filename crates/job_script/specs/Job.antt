@@ -1,6 +1,7 @@
 -- What the lines of a job are.
 use Rattle.std.specs.Prelude.{◌≡◌, ℕ, ◌+◌, ◌^◌, ◌<◌, ◌≤◌, List, [], ◌∷◌, ◌++◌, length, map}
 use Rattle.std.specs.List.{AllByRecursion}
+use Rattle.sls_base.specs.declared.texts.TheConstants.{PROGRAM_WORDS}
 use Rattle.job_script.specs.declared.line.Line.{Line}
 use Rattle.job_script.specs.declared.line.Line.TheVariants.{Cores, Code, Run, Checkpoint, Cut, Take, End}
 
@@ -38,7 +39,7 @@ IsAction End = ⊥
 pub record IsJob (lines : List Line) : Type 0 where
   pub form : lines ≡ Cores 1 ∷ (map Code (words_of lines) ++ (actions_of lines ++ End ∷ []))
   pub some_words : 0 < length (words_of lines)
-  pub few_words : length (words_of lines) ≤ 1024
+  pub few_words : length (words_of lines) ≤ PROGRAM_WORDS
   pub words : AllByRecursion (λ word. word < 2 ^ 32) (words_of lines)
   pub actions : AllByRecursion IsAction (actions_of lines)
   pub draws : draws_of lines ≤ 2000000

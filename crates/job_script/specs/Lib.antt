@@ -1,6 +1,6 @@
 pub mod Text
 pub mod Operands
-pub mod Steps
+pub mod UntilFault
 pub mod Lines
 pub mod Form
 pub mod Job

@@ -1,10 +1,11 @@
 -- What a line says.
-use Rattle.std.specs.Prelude.{ℕ, List, [], ◌∷◌, Option, Some, None, Result, Ok, Err, nat_le, nat_lt, ◌&&◌, ◌==◌, if◌then◌else◌, slice_index, bytes_eq, codes}
+use Rattle.std.specs.Prelude.{ℕ, nat_le, nat_lt, ◌&&◌, ◌==◌, if◌then◌else◌, List, [], ◌∷◌, slice_index, bytes_eq, codes}
+use Rattle.std.specs.Prelude.{Option, Some, None, Result, Ok, Err}
 use Rattle.job_script.specs.declared.fault.JobCause.{JobCause}
 use Rattle.job_script.specs.declared.fault.JobCause.TheVariants.{Word, Number}
 use Rattle.job_script.specs.declared.line.Line.{Line}
 use Rattle.job_script.specs.declared.line.Line.TheVariants.{Cores, Code, Run, Checkpoint, Cut, Take, End}
-use Rattle.job_script.specs.Steps.{◌>>=◌}
+use Rattle.job_script.specs.UntilFault.{◌>>=◌}
 use Rattle.job_script.specs.Text.{number_of, word_of}
 
 -- a machine has 1 to 8 cores; there is no line yet for more than one

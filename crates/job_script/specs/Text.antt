@@ -1,5 +1,7 @@
--- The parts of a text: fields and numbers. Its lines are those of `Rattle.std.specs.Str.Lines`: LF or CR LF ends each, and the last may lack it.
-use Rattle.std.specs.Prelude.{ℕ, ◌^◌, Bool, ◌&&◌, List, length, filter, Option, Some, None, Result, Ok, Err, nat_lt, nat_le, ◌==◌, if◌then◌else◌}
+-- The parts of a text: fields and numbers. Its lines are those of `Rattle.std.specs.Str.Lines`: LF or CR LF ends each,
+-- and the last may lack it.
+use Rattle.std.specs.Prelude.{ℕ, ◌^◌, nat_lt, nat_le, ◌==◌, Bool, ◌&&◌, if◌then◌else◌, List, length, filter}
+use Rattle.std.specs.Prelude.{Option, Some, None, Result, Ok, Err}
 use Rattle.std.specs.List.{slice_split, list_all}
 use Rattle.std.specs.Char.{is_digit}
 use Rattle.std.specs.Str.Parse.{digits_value}
@@ -21,7 +23,8 @@ all_digits radix field = list_all (λ c. is_digit c radix) field
 -- the value of digits, where it is below 2 ^ 64
 unfoldable pub value_of : ℕ → List ℕ → Option ℕ
 value_of radix field =
-    if all_digits radix field && nat_lt (digits_value radix field) (2 ^ 64) then Some (digits_value radix field) else None
+    let value = digits_value radix field in
+    if all_digits radix field && nat_lt value (2 ^ 64) then Some value else None
 
 -- the value, or the fault
 abbrev pub or_fault : JobCause → Option ℕ → Result ℕ JobCause

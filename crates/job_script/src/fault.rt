@@ -7,42 +7,34 @@ use std::alloc::AllocFailed;
 use thiserror::Error;
 
 /// What is wrong with a line.
-#[derive(Clone, Copy, Debug, PartialEq, Eq, Error)]
+#[derive(Clone, Copy, Debug, PartialEq, Eq)]
 pub enum JobCause {
     /// The text has more than 65,536 bytes.
-    #[error("TooLong")]
     TooLong,
     /// The text has more than 4,096 lines.
-    #[error("Lines")]
     Lines,
     /// The first field is no word of the language, or the number of fields isn't that word's.
-    #[error("Word")]
     Word,
     /// A number isn't 1 to 20 decimal digits, or is outside its range.
-    #[error("Number")]
     Number,
     /// A word isn't eight hexadecimal digits.
-    #[error("Hex")]
     Hex,
-    /// The form of a job doesn't have the line at its place.
-    #[error("Order")]
+    /// The line may not stand in this section of the job.
     Order,
     /// The draws of the job are too many.
-    #[error("Draws")]
     Draws,
     /// The text ends before the job does.
-    #[error("NoEnd")]
     NoEnd,
 }
 
 /// Why `read_job` gave no job.
-#[derive(Debug, Drop, Error)]
+#[derive(Clone, Copy, Debug, Error)]
 pub enum JobError {
     /// There is no memory for the lines.
     #[error("memory")]
     Memory,
     /// The text is no job: the line at fault and its cause.
-    #[error("bad job {line} {cause}")]
+    #[error("bad job {line} {cause:?}")]
     Bad { line: u32, cause: JobCause },
 }
 

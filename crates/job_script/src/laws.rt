@@ -10,5 +10,6 @@ ghost use Rattle.job_script.specs.Language.{IsJobText, IsFirstFault};
 /// law.
 pub fn language()
     ensures job { (text : List ℕ) (said : List Line) → (verdict text ≡ Good said) ↔ IsJobText text said }
-    ensures fault { (text : List ℕ) (n : ℕ) (cause : JobCause) → (verdict text ≡ Faulty n cause) ↔ IsFirstFault text n cause }
+    ensures fault { (text : List ℕ) (n : ℕ) (cause : JobCause) →
+        (verdict text ≡ Faulty n cause) ↔ IsFirstFault text n cause }
 {}

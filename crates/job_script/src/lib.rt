@@ -5,14 +5,11 @@ mod fault;
 mod laws;
 mod line;
 mod number;
-mod place;
 mod reading;
+mod section;
 mod text;
 
 pub use fault::{JobCause, JobError};
 pub use laws::language;
 pub use line::{Job, Line};
 pub use reading::read_job;
-
-#[cfg(test)]
-mod tests;

@@ -1,7 +1,7 @@
 //! The lines of a job.
 
 /// A line of a job.
-#[derive(Clone, Copy, Debug, PartialEq, Eq)]
+#[derive(Clone, Copy, PartialEq, Eq)]
 pub enum Line {
     /// The machine has this many cores.
     Cores(u8),
@@ -20,7 +20,7 @@ pub enum Line {
 }
 
 /// A job: its lines in order.
-#[derive(Debug, Drop)]
+#[derive(Drop)]
 pub struct Job {
     pub lines: Vec<Line>,
 }

@@ -1,6 +1,7 @@
 //! Reading a job.
 
-ghost use Rattle.std.specs.Prelude.{◌≡◌, IfOk, IfErr};
+ghost use Rattle.std.specs.Prelude.{◌≡◌, [], ◌∷◌, IfOk, IfErr};
+ghost use Rattle.std.specs.Str.{bytes_eq};
 ghost use Rattle.job_script.specs.Text.{fields_of};
 ghost use Rattle.job_script.specs.Lines.{cores_of, take_of, line_of, said_by};
 ghost use Rattle.job_script.specs.Grammar.{Good, verdict, Refuses, line_at};
@@ -9,16 +10,13 @@ ghost use Rattle.job_script.specs.Job.{IsJob};
 use crate::fault::{JobCause, JobError};
 use crate::line::{Job, Line};
 use crate::number::{number_of, word_of};
-use crate::place::Place;
+use crate::section::Section;
 use crate::text::{Operands, first_field, first_line, operands_of};
-use sls_base::{CORES, OUTPUT_CHANNELS};
+use sls_base::{CORES, OUTPUT_CHANNELS, TEXT_BYTES};
 use std::alloc::Global;
 
 /// What begins a comment.
 const HASH: u8 = b'#';
-
-/// The most bytes of a text.
-const TEXT_BYTES: usize = 65_536;
 
 /// The most lines of a text.
 const TEXT_LINES: u32 = 4_096;
@@ -51,29 +49,54 @@ fn take_of(channel: &[u8], n: &[u8]) -> Result<Line, JobCause>
     })
 }
 
+fn is(word: &[u8], wanted: &str) -> bool
+    ensures { result ≡ bytes_eq word.now wanted.now }
+{
+    word == wanted.as_bytes()
+}
+
+/// What a word without operands says.
+#[tactic(auto, unfolding(crate::specs::Lines::line_of))]
+fn bare_line(word: &[u8]) -> Result<Line, JobCause>
+    ensures { result ≡ line_of word.now [] }
+{
+    if is(word, "checkpoint") {
+        Ok(Line::Checkpoint)
+    } else if is(word, "end") {
+        Ok(Line::End)
+    } else {
+        Err(JobCause::Word)
+    }
+}
+
+/// What a word with one operand says.
+#[tactic(auto, unfolding(crate::specs::Lines::line_of))]
+fn line_with(word: &[u8], operand: &[u8]) -> Result<Line, JobCause>
+    ensures { result ≡ line_of word.now (operand.now ∷ []) }
+{
+    if is(word, "cores") {
+        cores_of(operand)
+    } else if is(word, "code") {
+        Ok(Line::Code(word_of(operand)?))
+    } else if is(word, "run") {
+        Ok(Line::Run(number_of(operand)?))
+    } else if is(word, "cut") {
+        Ok(Line::Cut(number_of(operand)?))
+    } else {
+        Err(JobCause::Word)
+    }
+}
+
 /// What a word and the operands that follow it say.
 #[tactic(auto, unfolding(crate::specs::Lines::line_of))]
 fn line_of(word: &[u8], rest: &[u8]) -> Result<Line, JobCause>
     ensures { result ≡ line_of word.now (fields_of rest.now) }
 {
     match operands_of(rest) {
-        Operands::None => match word {
-            b"checkpoint" => Ok(Line::Checkpoint),
-            b"end" => Ok(Line::End),
-            _ => Err(JobCause::Word),
-        },
-        Operands::One(operand) => match word {
-            b"cores" => cores_of(operand),
-            b"code" => Ok(Line::Code(word_of(operand)?)),
-            b"run" => Ok(Line::Run(number_of(operand)?)),
-            b"cut" => Ok(Line::Cut(number_of(operand)?)),
-            _ => Err(JobCause::Word),
-        },
-        Operands::Two(first, second) => match word {
-            b"take" => take_of(first, second),
-            _ => Err(JobCause::Word),
-        },
-        Operands::More => Err(JobCause::Word),
+        Operands::None => bare_line(word),
+        Operands::One(operand) => line_with(word, operand),
+        Operands::Two(first, second) if is(word, "take") => take_of(first, second),
+        _ => Err(JobCause::Word),
     }
 }
 
@@ -89,18 +112,18 @@ fn said_by(text: &[u8]) -> Result<Option<Line>, JobCause>
     }
 }
 
-/// What a line says at a place of the form, and the place after it.
+/// What a line says in a section of the job, and the section after it.
 #[tactic(auto, unfolding(crate::specs::Grammar::line_at))]
-fn line_at(number: u32, place: Place, text: &[u8]) -> Result<(Option<Line>, Place), JobCause>
-    ensures { result ≡ line_at number place text.now }
+fn line_at(number: u32, section: Section, text: &[u8]) -> Result<(Option<Line>, Section), JobCause>
+    ensures { result ≡ line_at number section text.now }
 {
     if number > TEXT_LINES {
         return Err(JobCause::Lines);
     }
     match said_by(text)? {
-        None => Ok((None, place)),
+        None => Ok((None, section)),
         Some(line) => {
-            let next = place.after(line)?;
+            let next = section.after(line)?;
             Ok((Some(line), next))
         }
     }
@@ -119,11 +142,11 @@ pub fn read_job(alloc: Global, bytes: &[u8]) -> Result<Job, JobError>
         });
     }
     let mut lines = Vec::new(alloc);
-    let mut place = Place::Start;
+    let mut section = Section::Start;
     let mut number = 1;
     let mut rest = bytes;
     while let Some((text, after)) = first_line(rest) {
-        let (said, next) = match line_at(number, place, text) {
+        let (said, next) = match line_at(number, section, text) {
             Ok(read) => read,
             Err(cause) => return Err(JobError::Bad {
                 line: number,
@@ -133,12 +156,12 @@ pub fn read_job(alloc: Global, bytes: &[u8]) -> Result<Job, JobError>
         if let Some(line) = said {
             lines.push(line)?;
         }
-        place = next;
+        section = next;
         number += 1;
         rest = after;
     }
-    match place {
-        Place::Ended => Ok(Job { lines }),
+    match section {
+        Section::Ended => Ok(Job { lines }),
         _ => Err(JobError::Bad {
             line: number,
             cause: JobCause::NoEnd,

@@ -22,7 +22,7 @@ pub enum Operands<'a> {
 }
 
 /// Where a byte stands first.
-fn place_of(text: &[u8], mark: u8) -> Option<usize>
+fn index_of(text: &[u8], mark: u8) -> Option<usize>
     ensures { result ≡ position (λ b. b == mark) text.now }
 {
     text.iter().position(|byte| *byte == mark)
@@ -34,7 +34,7 @@ fn cut_at(text: &[u8], mark: u8) -> Option<(&[u8], &[u8])>
         (λ cut. parts_round mark text.now ≡ cut.0.now ∷ parts_round mark cut.1.now) }
     ensures shorter { IfSome result (λ cut. length cut.1.now < length text.now) }
 {
-    let at = place_of(text, mark)?;
+    let at = index_of(text, mark)?;
     Some((&text[..at], &text[at + 1..]))
 }
 

@@ -12,7 +12,7 @@ pub returns-in-Err-clause-refused : goal.returns-in-Err-clause-refused
 returns-in-Err-clause-refused c =
     let i = c.loop-text in
     let so_far = rw c.in-Some.ensures.lines at i.invariant.read in
-    verdict_is c.args.bytes.now _ (omega arith) (stops i.lines.items i.number i.place c.in-Some.text.now (lines c.in-Some.after.now) c.in-Err.cause _ (sym c.line_at.ensures ∙ c.in-Err.is) so_far)
+    verdict_is c.args.bytes.now _ (omega arith) (stops i.lines.items i.number i.section c.in-Some.text.now (lines c.in-Some.after.now) c.in-Err.cause _ (sym c.line_at.ensures ∙ c.in-Err.is) so_far)
 
 pub loop-text-preserved : goal.loop-text-preserved
 loop-text-preserved c =
@@ -21,7 +21,7 @@ loop-text-preserved c =
     let read = c.in-Ok.read in
     let at = sym c.line_at.ensures ∙ c.in-Ok.is in
     record {
-      read = elim c.match-said.branch [ in-Some-said+in_ok-push w ↦ rw (w.lines-is, w.in_ok-push.ensures.items) (goes_on i.lines.items i.number i.place c.in-Some.text.now (lines c.in-Some.after.now) w.in-Some-said.line read.1 _ (at ∙ ap (λ said. Ok (said, read.1)) w.in-Some-said.is) so_far) | in_default-said w ↦ rw w.lines-is (skips i.lines.items i.number i.place c.in-Some.text.now (lines c.in-Some.after.now) read.1 _ (at ∙ ap (λ said. Ok (said, read.1)) w.in_default-said.is) so_far) ];
+      read = elim c.match-said.branch [ in-Some-said+in_ok-push w ↦ rw (w.lines-is, w.in_ok-push.ensures.items) (goes_on i.lines.items i.number i.section c.in-Some.text.now (lines c.in-Some.after.now) w.in-Some-said.line read.1 _ (at ∙ ap (λ said. Ok (said, read.1)) w.in-Some-said.is) so_far) | in_default-said w ↦ rw w.lines-is (skips i.lines.items i.number i.section c.in-Some.text.now (lines c.in-Some.after.now) read.1 _ (at ∙ ap (λ said. Ok (said, read.1)) w.in_default-said.is) so_far) ];
       number = omega (arith, c.in-Some.ensures.shorter);
     }
 
@@ -33,11 +33,11 @@ returns-in-Ended-clause-read c =
 pub returns-in-Ended-clause-form : goal.returns-in-Ended-clause-form
 returns-in-Ended-clause-form c = (job_text c.args.bytes.now c.loop-text.lines.items (returns-in-Ended-clause-read c)).job
 
-pub returns-in_default-place : goal.returns-in_default-place
-returns-in_default-place c =
+pub returns-in_default-section : goal.returns-in_default-section
+returns-in_default-section c =
     let i = c.loop-text in
     record {
       read = tt;
       form = tt;
-      refused = verdict_is c.args.bytes.now _ (omega arith) (not_done i.lines.items i.number i.place _ c.in_default-place.not-Ended (rw c.in_default.ensures.lines at i.invariant.read));
+      refused = verdict_is c.args.bytes.now _ (omega arith) (not_done i.lines.items i.number i.section _ c.in_default-section.not-Ended (rw c.in_default.ensures.lines at i.invariant.read));
     }

@@ -4,41 +4,41 @@ use Rattle.std.specs.List.{AllByRecursion}
 use Rattle.job_script.specs.declared.fault.JobCause.{JobCause}
 use Rattle.job_script.specs.declared.line.Line.{Line}
 use Rattle.job_script.specs.declared.line.Line.TheVariants.{Cores, Code, Run, Checkpoint, Cut, Take, End}
-use Rattle.job_script.specs.declared.place.Place.{Place}
-use Rattle.job_script.specs.declared.place.Place.TheVariants.{Start, Program, Actions, Ended}
-use Rattle.job_script.specs.Steps.{◌>>=◌}
+use Rattle.job_script.specs.declared.section.Section.{Section}
+use Rattle.job_script.specs.declared.section.Section.TheVariants.{Start, Program, Actions, Ended}
+use Rattle.job_script.specs.UntilFault.{◌>>=◌}
 use Rattle.job_script.specs.Form.{after}
 use Rattle.job_script.specs.Job.{words_of, actions_of, draws_of, IsAction, IsJob}
 use Rattle.job_script.specs.Language.{IsBeginning}
 use Rattle.job_script.proofs.Ranges.{InRange}
-use Rattle.job_script.proofs.Order.{places, job_of_places}
+use Rattle.job_script.proofs.Order.{behind, job_of_end}
 
 bound_twice : {A B C : Type 0} (read : Result A JobCause) (f : A → Result C JobCause) (g : A → Result B JobCause) (h : B → Result C JobCause) → ((x : A) → f x ≡ (g x >>= h)) → (read >>= f) ≡ ((read >>= g) >>= h)
 bound_twice (Ok x) f g h same = same x
 bound_twice (Err cause) f g h same = refl
 
-places_append : (place : Place) (lines more : List Line) → places place (lines ++ more) ≡ (places place lines >>= (λ next. places next more))
-places_append place [] more = refl
-places_append place (line ∷ lines) more =
-    bound_twice (after place line) (λ next. places next (lines ++ more)) (λ next. places next lines) (λ next. places next more) (λ next. places_append next lines more)
+behind_append : (section : Section) (lines more : List Line) → behind section (lines ++ more) ≡ (behind section lines >>= (λ next. behind next more))
+behind_append section [] more = refl
+behind_append section (line ∷ lines) more =
+    bound_twice (after section line) (λ next. behind next (lines ++ more)) (λ next. behind next lines) (λ next. behind next more) (λ next. behind_append next lines more)
 
--- the place behind some lines and more
-pub then_places : (place : Place) (lines more : List Line) (next : Place) → places place lines ≡ Ok next → places place (lines ++ more) ≡ places next more
-then_places place lines more next e = places_append place lines more ∙ ap (λ read. read >>= (λ q. places q more)) e
+-- the section behind some lines and more
+pub then_behind : (section : Section) (lines more : List Line) (next : Section) → behind section lines ≡ Ok next → behind section (lines ++ more) ≡ behind next more
+then_behind section lines more next e = behind_append section lines more ∙ ap (λ read. read >>= (λ q. behind q more)) e
 
 pub all_append : (P : Line → Type 0) (lines more : List Line) → AllByRecursion P lines → AllByRecursion P more → AllByRecursion P (lines ++ more)
 all_append P [] more h k = k
 all_append P (line ∷ lines) more h k = (h.0, all_append P lines more h.1 k)
 
 -- lines that bring a job to its end
-finish : Place → List Line
+finish : Section → List Line
 finish Start = Cores 1 ∷ Code 0 ∷ End ∷ []
 finish (Program zero) = Code 0 ∷ End ∷ []
 finish (Program (suc words)) = End ∷ []
 finish (Actions draws) = End ∷ []
 finish Ended = []
 
-finishes : (place : Place) → places place (finish place) ≡ Ok Ended
+finishes : (section : Section) → behind section (finish section) ≡ Ok Ended
 unfolding finish
 finishes Start = refl
 finishes (Program zero) = refl
@@ -46,7 +46,7 @@ finishes (Program (suc words)) = let some : nat_lt 0 (suc words) ≡ true = lt-l
 finishes (Actions draws) = refl
 finishes Ended = refl
 
-finish_fits : (place : Place) → AllByRecursion InRange (finish place)
+finish_fits : (section : Section) → AllByRecursion InRange (finish section)
 unfolding finish
 finish_fits Start = (refl, (lit< tt, (tt, tt)))
 finish_fits (Program zero) = (lit< tt, (tt, tt))
@@ -54,12 +54,12 @@ finish_fits (Program (suc words)) = (tt, tt)
 finish_fits (Actions draws) = (tt, tt)
 finish_fits Ended = tt
 
-pub beginning : (lines : List Line) (place : Place) → places Start lines ≡ Ok place → AllByRecursion InRange lines → IsBeginning lines
-beginning lines place e fits =
-    (finish place, job_of_places (lines ++ finish place) (then_places Start lines (finish place) place e ∙ finishes place) (all_append InRange lines (finish place) fits (finish_fits place)))
+pub beginning : (lines : List Line) (section : Section) → behind Start lines ≡ Ok section → AllByRecursion InRange lines → IsBeginning lines
+beginning lines section e fits =
+    (finish section, job_of_end (lines ++ finish section) (then_behind Start lines (finish section) section e ∙ finishes section) (all_append InRange lines (finish section) fits (finish_fits section)))
 
 -- actions and `end`
-from_actions : (draws : ℕ) (actions : List Line) → AllByRecursion IsAction actions → draws + draws_of actions ≤ 2000000 → places (Actions draws) (actions ++ End ∷ []) ≡ Ok Ended
+from_actions : (draws : ℕ) (actions : List Line) → AllByRecursion IsAction actions → draws + draws_of actions ≤ 2000000 → behind (Actions draws) (actions ++ End ∷ []) ≡ Ok Ended
 from_actions draws [] h few = refl
 from_actions draws (Run n ∷ more) h few =
     let test : nat_le (draws + n) 2000000 ≡ true = le-leb (draws + n) 2000000 (omega arith) in
@@ -72,7 +72,7 @@ from_actions draws (Code word ∷ more) h few = absurd h.0
 from_actions draws (End ∷ more) h few = absurd h.0
 
 -- behind the program
-from_program : (words : ℕ) (actions : List Line) → nat_lt 0 words ≡ true → AllByRecursion IsAction actions → draws_of actions ≤ 2000000 → places (Program words) (actions ++ End ∷ []) ≡ Ok Ended
+from_program : (words : ℕ) (actions : List Line) → nat_lt 0 words ≡ true → AllByRecursion IsAction actions → draws_of actions ≤ 2000000 → behind (Program words) (actions ++ End ∷ []) ≡ Ok Ended
 from_program words [] some h few = rw some refl
 from_program words (Run n ∷ more) some h few = rw some (from_actions 0 (Run n ∷ more) h (omega arith))
 from_program words (Checkpoint ∷ more) some h few = rw some (from_actions 0 (Checkpoint ∷ more) h (omega arith))
@@ -84,7 +84,7 @@ from_program words (End ∷ more) some h few = absurd h.0
 
 -- in the program
 from_words : (before : ℕ) (words : List ℕ) (actions : List Line) → before + length words ≤ 1024 → 0 < before + length words → AllByRecursion IsAction actions → draws_of actions ≤ 2000000
-    → places (Program before) (map Code words ++ (actions ++ End ∷ [])) ≡ Ok Ended
+    → behind (Program before) (map Code words ++ (actions ++ End ∷ [])) ≡ Ok Ended
 from_words before [] actions most some h few = from_program before actions (lt-ltb 0 before (omega arith)) h few
 from_words before (word ∷ words) actions most some h few =
     let test : nat_lt before 1024 ≡ true = lt-ltb before 1024 (omega arith) in
@@ -100,25 +100,25 @@ draws_of_actions (Cores n ∷ lines) = draws_of_actions lines
 draws_of_actions (Code word ∷ lines) = draws_of_actions lines
 draws_of_actions (End ∷ lines) = draws_of_actions lines
 
-pub places_of_job : (lines : List Line) → IsJob lines → places Start lines ≡ Ok Ended
-places_of_job lines is =
-    let P : List Line → Type 0 = λ l. places Start l ≡ Ok Ended in
+pub behind_job : (lines : List Line) → IsJob lines → behind Start lines ≡ Ok Ended
+behind_job lines is =
+    let P : List Line → Type 0 = λ l. behind Start l ≡ Ok Ended in
     subst P (sym is.form) (from_words 0 (words_of lines) (actions_of lines) (omega (arith, is.few_words)) (omega (arith, is.some_words)) is.actions (omega (arith, is.draws, draws_of_actions lines)))
 
 -- a line that has no place behind some lines begins no job with them
-pub no_beginning : (lines : List Line) (place : Place) (line : Line) (cause : JobCause) → places Start lines ≡ Ok place → after place line ≡ Err cause → IsBeginning (lines ++ line ∷ []) → ⊥
-no_beginning lines place line cause e stop begins =
-    let all : places Start ((lines ++ line ∷ []) ++ begins.0) ≡ Ok Ended = places_of_job ((lines ++ line ∷ []) ++ begins.0) begins.1 in
-    let none : places Start ((lines ++ line ∷ []) ++ begins.0) ≡ Err cause =
-    ap (λ ls. places Start ls) (append_assoc lines (line ∷ []) begins.0) ∙ then_places Start lines (line ∷ begins.0) place e ∙ ap (λ read. read >>= (λ q. places q begins.0)) stop in
+pub no_beginning : (lines : List Line) (section : Section) (line : Line) (cause : JobCause) → behind Start lines ≡ Ok section → after section line ≡ Err cause → IsBeginning (lines ++ line ∷ []) → ⊥
+no_beginning lines section line cause e stop begins =
+    let all : behind Start ((lines ++ line ∷ []) ++ begins.0) ≡ Ok Ended = behind_job ((lines ++ line ∷ []) ++ begins.0) begins.1 in
+    let none : behind Start ((lines ++ line ∷ []) ++ begins.0) ≡ Err cause =
+    ap (λ ls. behind Start ls) (append_assoc lines (line ∷ []) begins.0) ∙ then_behind Start lines (line ∷ begins.0) section e ∙ ap (λ read. read >>= (λ q. behind q begins.0)) stop in
     cc
 
--- lines that begin a job lead to a place
-pub place_of_beginning : (lines : List Line) → IsBeginning lines → (place : Place) × (places Start lines ≡ Ok place)
-place_of_beginning lines begins =
-    let all : places Start (lines ++ begins.0) ≡ Ok Ended = places_of_job (lines ++ begins.0) begins.1 in
-    led (places Start lines) begins.0 (sym (places_append Start lines begins.0) ∙ all)
+-- lines that begin a job lead to a section
+pub section_of_beginning : (lines : List Line) → IsBeginning lines → (section : Section) × (behind Start lines ≡ Ok section)
+section_of_beginning lines begins =
+    let all : behind Start (lines ++ begins.0) ≡ Ok Ended = behind_job (lines ++ begins.0) begins.1 in
+    led (behind Start lines) begins.0 (sym (behind_append Start lines begins.0) ∙ all)
   where
-    led : (read : Result Place JobCause) (more : List Line) → (read >>= (λ next. places next more)) ≡ Ok Ended → (place : Place) × (read ≡ Ok place)
-    led (Ok place) more e = (place, refl)
+    led : (read : Result Section JobCause) (more : List Line) → (read >>= (λ next. behind next more)) ≡ Ok Ended → (section : Section) × (read ≡ Ok section)
+    led (Ok section) more e = (section, refl)
     led (Err cause) more e = cc

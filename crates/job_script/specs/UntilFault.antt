@@ -1,4 +1,4 @@
--- Steps that may find a fault.
+-- What is read step by step, up to the first fault.
 use Rattle.std.specs.Prelude.{Result, Ok, Err}
 use Rattle.job_script.specs.declared.fault.JobCause.{JobCause}
 
