@@ -15,7 +15,8 @@ use Rattle.plain_model.specs.declared.reach.Reach.{Reach}
 use Rattle.plain_model.specs.States.{State}
 use Rattle.plain_model.specs.Memory.{place_of, places_of, page_at, is_covered, stores_at}
 use Rattle.plain_model.specs.Worlds.{World}
-use Rattle.plain_model.specs.Effects.{Effect, INSTRUCTION_BYTES, stops}
+use Rattle.sls_base.specs.declared.limits.TheConstants.{INSTRUCTION_BYTES}
+use Rattle.plain_model.specs.Effects.{Effect, stops}
 use Rattle.plain_model.specs.Instructions.{seen_by, instruction, fetched, value_at, with_fetch, obeyed}
 use Rattle.plain_model.specs.Ticks.{loads_from, stores_to, puts_to_page}
 use Rattle.plain_model.specs.SlowReach.{IsReach, is_any_on, word_at_pc}

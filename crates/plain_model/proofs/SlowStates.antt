@@ -33,3 +33,17 @@ state_same objects objects' queue queue' cores cores' out out' inputs inputs' fr
     ∙ ap (λ s. parts (map slot_of objects') queue' s out (inputs_of inputs)) c
     ∙ ap (λ s. parts (map slot_of objects') queue' cores' s (inputs_of inputs)) d
     ∙ ap (parts (map slot_of objects') queue' cores' out') (ap inputs_of e ∙ inputs_drop from inputs')
+
+-- states with the same parts are the same
+
+abbrev pub made : (ℕ → Option Object) → List ℕ → List (Option Occupant) → (ℕ → List (List ℕ)) → List (List ℕ) → State
+made objects queue cores out inputs =
+    record { objects = objects; queue = queue; cores = cores; out = out; inputs = inputs }
+
+pub state_is : (s t : State) → s.objects ≡ t.objects → s.queue ≡ t.queue → s.cores ≡ t.cores → s.out ≡ t.out → s.inputs ≡ t.inputs → s ≡ t
+state_is s t objects queue cores out inputs =
+    ap (λ (x : ℕ → Option Object). made x s.queue s.cores s.out s.inputs) objects
+    ∙ ap (λ (x : List ℕ). made t.objects x s.cores s.out s.inputs) queue
+    ∙ ap (λ (x : List (Option Occupant)). made t.objects t.queue x s.out s.inputs) cores
+    ∙ ap (λ (x : ℕ → List (List ℕ)). made t.objects t.queue t.cores x s.inputs) out
+    ∙ ap (λ (x : List (List ℕ)). made t.objects t.queue t.cores t.out x) inputs

@@ -6,7 +6,7 @@ use Rattle.plain_model.specs.States.{State}
 use Rattle.plain_model.specs.Sweep.{leads_to, is_within}
 use Rattle.plain_model.specs.declared.sweep.Reached.{Reached}
 use Rattle.plain_model.specs.SlowSweep.{has, TellsWithin}
-use Rattle.plain_model.proofs.ListTests.{any_same, range_in}
+use Rattle.sls_base.proofs.ListTests.{any_same, range_in}
 
 -- two tests that agree at each number that an object can have find one of it alike
 pub any_object_alike : (p q : ℕ → Bool) → ((k : ℕ) → k < 256 → p k ≡ q k) → list_any p every_object ≡ list_any q every_object

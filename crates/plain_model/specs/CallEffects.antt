@@ -61,7 +61,9 @@ with_cap slots cap = Group (slice_set slots (unwrap_or (free_slot slots) 0) (Som
 
 abbrev pub makes : World → ThreadRecord → Object → Effect
 makes w thread object =
-    answers_with thread (unwrap_or (free_slot (own_slots w thread)) 0) (change (new_id w) object ∷ change thread.group (with_cap (own_slots w thread) (record { object = new_id w; rights = ALL_RIGHTS })) ∷ [])
+    answers_with thread (unwrap_or (free_slot (own_slots w thread)) 0)
+    (change (new_id w) object
+    ∷ change thread.group (with_cap (own_slots w thread) (record { object = new_id w; rights = ALL_RIGHTS })) ∷ [])
 
 -- Rings.
 
@@ -74,7 +76,10 @@ put_effect s thread =
     let places = places_of (regions_of (s.objects thread.space)) READ (arg thread 1) (arg thread 2) in
     record (answers thread 0) {
       loads = places;
-      output = Some (record { channel = channel_of (named s thread 0); bytes = record { items = map (byte_at s.objects) places } });
+      output = Some (record {
+        channel = channel_of (named s thread 0);
+        bytes = record { items = map (byte_at s.objects) places };
+      });
     }
 
 -- the first input's bytes, as far as there is room for them; the answer is its whole length
@@ -83,7 +88,8 @@ get_effect s thread =
     let input = slice_index_or s.inputs 0 [] in
     let count = min (length input) (arg thread 2) in
     record (answers thread (length input)) {
-      stores = stores_at (places_of (regions_of (s.objects thread.space)) WRITE (arg thread 1) count) (take count input);
+      stores = stores_at (places_of (regions_of (s.objects thread.space)) WRITE (arg thread 1) count)
+          (take count input);
       takes = true;
     }
 
@@ -101,7 +107,8 @@ new_region s thread = record {
 
 abbrev pub map_effect : State → ThreadRecord → Effect
 map_effect s thread =
-    answers_with thread 0 (change (id_named s thread 0) (Space (inserted (new_region s thread) (regions_of (named s thread 0)))) ∷ [])
+    answers_with thread 0 (change (id_named s thread 0)
+    (Space (inserted (new_region s thread) (regions_of (named s thread 0)))) ∷ [])
 
 abbrev pub unmap_effect : State → ThreadRecord → Effect
 unmap_effect s thread =
@@ -117,11 +124,13 @@ new_cap s thread = record { object = id_named s thread 0; rights = arg thread 2 
 abbrev pub copy_effect : State → ThreadRecord → Effect
 copy_effect s thread =
     let slots = slots_of (named s thread 1) in
-    answers_with thread (unwrap_or (free_slot slots) 0) (change (id_named s thread 1) (with_cap slots (new_cap s thread)) ∷ [])
+    answers_with thread (unwrap_or (free_slot slots) 0)
+    (change (id_named s thread 1) (with_cap slots (new_cap s thread)) ∷ [])
 
 abbrev pub drop_effect : State → ThreadRecord → Effect
 drop_effect s thread =
-    answers_with thread 0 (change (id_named s thread 0) (Group (slice_set (slots_of (named s thread 0)) (arg thread 1) None)) ∷ [])
+    answers_with thread 0 (change (id_named s thread 0)
+    (Group (slice_set (slots_of (named s thread 0)) (arg thread 1) None)) ∷ [])
 
 -- Threads.
 
@@ -141,9 +150,12 @@ thread_effect w thread = record (makes w thread (Thread (new_thread w.now thread
 
 -- the first waiter becomes Ready, or the count rises
 abbrev pub signal_effect : State → ThreadRecord → ℕ → Option Object → Effect
-signal_effect s thread note (Some (Notification count [])) = answers_with thread 0 (change note (Notification (count + 1) []) ∷ [])
+signal_effect s thread note (Some (Notification count [])) =
+    answers_with thread 0 (change note (Notification (count + 1) []) ∷ [])
 signal_effect s thread note (Some (Notification count (waiter ∷ waiters))) =
-    record (answers_with thread 0 (change note (Notification count waiters) ∷ ready_with s waiter (slice_set (thread_at s waiter).x ANSWER 0) ∷ [])) {
+    record (answers_with thread 0
+    (change note (Notification count waiters) ∷ ready_with s waiter (slice_set (thread_at s waiter).x ANSWER 0)
+    ∷ [])) {
       wakes = waiter ∷ [];
     }
 signal_effect s thread note _ = answers thread 0
@@ -168,7 +180,8 @@ abbrev pub call_effect : State → ℕ → ThreadRecord → ℕ → Option Objec
 call_effect s id thread connection (Some (Connection server client clients)) =
     if is_serving (thread_at s server).state connection
     then record (waits thread (Served connection)) {
-      changes = change connection (Connection server (Some id) clients) ∷ ready_with s server (handed (thread_at s server).x (arg thread 1) (arg thread 2)) ∷ [];
+      changes = change connection (Connection server (Some id) clients)
+          ∷ ready_with s server (handed (thread_at s server).x (arg thread 1) (arg thread 2)) ∷ [];
       wakes = server ∷ [];
     }
     else record (waits thread (Calling connection)) {
@@ -178,7 +191,8 @@ call_effect s id thread connection _ = answers thread 0
 
 -- the client that was served becomes Ready with the server's values
 abbrev pub client_done : State → ThreadRecord → Option ℕ → List Change
-client_done s thread (Some client) = ready_with s client (handed (thread_at s client).x (arg thread 1) (arg thread 2)) ∷ []
+client_done s thread (Some client) =
+    ready_with s client (handed (thread_at s client).x (arg thread 1) (arg thread 2)) ∷ []
 client_done s thread None = []
 
 abbrev pub client_woken : Option ℕ → List ℕ
@@ -190,7 +204,8 @@ abbrev pub serve_next : State → ThreadRecord → ℕ → ℕ → Option ℕ �
 serve_next s thread connection server client (next ∷ clients) =
     let caller = thread_at s next in
     record (goes_on (record { pc = next_pc thread; x = handed thread.x (arg caller 1) (arg caller 2) })) {
-      changes = client_done s thread client ++ change connection (Connection server (Some next) clients) ∷ change next (thread_with caller (Served connection) caller.x) ∷ [];
+      changes = client_done s thread client ++ change connection (Connection server (Some next) clients)
+          ∷ change next (thread_with caller (Served connection) caller.x) ∷ [];
       wakes = client_woken client;
     }
 serve_next s thread connection server (Some client) [] =
@@ -201,7 +216,8 @@ serve_next s thread connection server (Some client) [] =
 serve_next s thread connection server None [] = waits thread (Serving connection)
 
 abbrev pub serve_effect : State → ThreadRecord → ℕ → Option Object → Effect
-serve_effect s thread connection (Some (Connection server client clients)) = serve_next s thread connection server client clients
+serve_effect s thread connection (Some (Connection server client clients)) =
+    serve_next s thread connection server client clients
 serve_effect s thread connection _ = answers thread 0
 
 -- What a call of thread `id` does that isn't refused.

@@ -1,7 +1,7 @@
 -- When a call is refused: the first refusal, in the stated order, that holds for any of its arguments.
 use Rattle.std.specs.Prelude.{ℕ, ◌+◌, ◌*◌, ◌/◌, ◌%◌, ◌^◌, ◌-◌, ◌==◌, ◌&&◌, ◌||◌, not, nat_lt, nat_le, min, Bool, false, List, length, find, Option, Some, is_none}
 use Rattle.std.specs.List.{list_any}
-use Rattle.sls_base.specs.declared.limits.TheConstants.{PAGE_BYTES, ENTRY_BYTES, MEMORY_PAGES, SPACE_REGIONS, GROUP_SLOTS}
+use Rattle.sls_base.specs.declared.limits.TheConstants.{PAGE_BYTES, ENTRY_BYTES, MEMORY_PAGES, SPACE_REGIONS, GROUP_SLOTS, INSTRUCTION_BYTES}
 use Rattle.sls_base.specs.declared.rights.TheConstants.{READ, WRITE, REGION_RIGHTS}
 use Rattle.sls_base.specs.declared.thread.Thread.{Thread as ThreadRecord}
 use Rattle.plain_model.specs.declared.objects.Region.{Region}
@@ -14,7 +14,6 @@ use Rattle.plain_model.specs.Objects.{Object, Group, Connection, Notification, O
 use Rattle.plain_model.specs.States.{State}
 use Rattle.plain_model.specs.Memory.{is_covered}
 use Rattle.plain_model.specs.Worlds.{World, is_ring_full, free_objects, free_pages}
-use Rattle.plain_model.specs.Effects.{INSTRUCTION_BYTES}
 use Rattle.plain_model.specs.Calls.{arg, cap_in, cap_named, named, rights_of_cap, free_slot, needs}
 use Rattle.plain_model.specs.Refusals.{refusal_order}
 
@@ -105,8 +104,10 @@ is_refused_besides w id thread MemNew BadSize = not (is_memory_size (arg thread 
 is_refused_besides w id thread MemNew NoPages = nat_lt (length (free_pages w)) (pages_wanted (arg thread 0))
 is_refused_besides w id thread MemNew refusal = no_room w thread refusal
 is_refused_besides w id thread Map BadAddress = is_bad_range (arg thread 2) (arg thread 4)
-is_refused_besides w id thread Map BadSize = is_bad_part (length (pages_of (named w.now thread 1))) (arg thread 3) (arg thread 4) (arg thread 5)
-is_refused_besides w id thread Map Overlap = list_any (meets (arg thread 2 / PAGE_BYTES) (arg thread 4)) (regions_of (named w.now thread 0))
+is_refused_besides w id thread Map BadSize =
+    is_bad_part (length (pages_of (named w.now thread 1))) (arg thread 3) (arg thread 4) (arg thread 5)
+is_refused_besides w id thread Map Overlap =
+    list_any (meets (arg thread 2 / PAGE_BYTES) (arg thread 4)) (regions_of (named w.now thread 0))
 is_refused_besides w id thread Map NoRegions = nat_le SPACE_REGIONS (length (regions_of (named w.now thread 0)))
 is_refused_besides w id thread Unmap BadAddress = no_region_at (regions_of (named w.now thread 0)) (arg thread 1)
 is_refused_besides w id thread SpaceNew refusal = no_room w thread refusal

@@ -16,7 +16,8 @@ use Rattle.plain_model.specs.States.{State}
 -- the calls by number, from 0 on; no other number names one
 abbrev pub calls : List Call
 calls =
-    Yield ∷ Halt ∷ Put ∷ Get ∷ MemNew ∷ Map ∷ Unmap ∷ SpaceNew ∷ GroupNew ∷ CapCopy ∷ CapDrop ∷ ThreadNew ∷ NoteNew ∷ Signal ∷ Wait ∷ ConnNew ∷ ConnCall ∷ Serve ∷ Checkpoint ∷ []
+    Yield ∷ Halt ∷ Put ∷ Get ∷ MemNew ∷ Map ∷ Unmap ∷ SpaceNew ∷ GroupNew ∷ CapCopy ∷ CapDrop ∷ ThreadNew ∷ NoteNew
+    ∷ Signal ∷ Wait ∷ ConnNew ∷ ConnCall ∷ Serve ∷ Checkpoint ∷ []
 
 -- the call that a thread names
 abbrev pub call_named : ThreadRecord → Option Call

@@ -29,4 +29,5 @@ page_turns w page = differ (has_page w.saved page) (has_page (swept w.now) page)
 -- Eight for each page stored to, each object written and each number that comes into use or goes, and 64 for the rest.
 abbrev pub cost : World → ℕ
 cost w =
-    8 * (count_of every_page w.stored + count_of every_object (is_written w) + count_of every_object (object_turns w) + count_of every_page (page_turns w)) + 64
+    8 * (count_of every_page w.stored + count_of every_object (is_written w) + count_of every_object (object_turns w)
+    + count_of every_page (page_turns w)) + 64

@@ -1,5 +1,6 @@
 -- What an instruction or a call does, as data: nothing is done yet.
 use Rattle.std.specs.Prelude.{ℕ, Bool, false, List, [], Option, None, slice_set}
+use Rattle.sls_base.specs.declared.limits.TheConstants.{INSTRUCTION_BYTES}
 use Rattle.sls_base.specs.declared.thread.Thread.{Thread as ThreadRecord}
 use Rattle.sls_base.specs.declared.thread.ThreadState.{ThreadState}
 use Rattle.rv_core.specs.declared.registers.Regs.{Regs}
@@ -30,9 +31,6 @@ pub record Effect : Type 0 where
   pub output : Option Output
   pub takes : Bool
   pub wishes : Bool
-
-abbrev pub INSTRUCTION_BYTES : ℕ
-INSTRUCTION_BYTES = 4
 
 abbrev pub regs_of : ThreadRecord → Regs
 regs_of thread = record { pc = thread.pc; x = thread.x }

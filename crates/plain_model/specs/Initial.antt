@@ -1,7 +1,7 @@
 -- The state that an image begins with, and which images are accepted.
 use Rattle.std.specs.Prelude.{◌≡◌, ◌⊎◌, ℕ, ◌+◌, ◌*◌, ◌/◌, ◌%◌, ◌^◌, ◌<◌, ◌≤◌, true, false, if◌then◌else◌, List, [], ◌∷◌, ◌++◌, length, map, filter, take, drop, replicate, sum_by, All, AllPairs, Any, Option, Some, None, slice_index, slice_get, slice_set}
 use Rattle.std.specs.List.{range_with_len}
-use Rattle.sls_base.specs.declared.limits.TheConstants.{PAGE_BYTES, GROUP_SLOTS, OUTPUT_CHANNELS, OBJECTS, PAGES, MEMORY_PAGES}
+use Rattle.sls_base.specs.declared.limits.TheConstants.{PAGE_BYTES, GROUP_SLOTS, OUTPUT_CHANNELS, OBJECTS, PAGES, MEMORY_PAGES, INSTRUCTION_BYTES}
 use Rattle.sls_base.specs.declared.fixed.TheConstants.{ROOT_GROUP, FIRST_OUTPUT_RING, INPUT_RING, FIRST_PROGRAM_OBJECT, FIRST_PROGRAM_PAGE}
 use Rattle.sls_base.specs.declared.rights.TheConstants.{ALL_RIGHTS, EXECUTE, REGION_RIGHTS}
 use Rattle.sls_base.specs.declared.thread.ThreadState.TheVariants.{Ready}
@@ -15,7 +15,6 @@ use Rattle.plain_model.specs.declared.objects.Region.{Region}
 use Rattle.plain_model.specs.Objects.{Object, Group, Thread, Space, Memory, OutputRing, InputRing, Scheduler, Page, empty_slots, includes, is_thread, inserted}
 use Rattle.plain_model.specs.States.{State, zero_registers}
 use Rattle.plain_model.specs.Worlds.{World}
-use Rattle.plain_model.specs.Effects.{INSTRUCTION_BYTES}
 
 -- Numbers: a program has its group, its space, a memory object for each region and its threads, in this order, and each region
 -- has its pages.
@@ -46,11 +45,20 @@ if_set p bit object = if includes p.channels (2 ^ bit) then all_rights object el
 -- itself, its space, its channels, the root group, its memory objects and its threads
 abbrev pub program_caps : Program → ℕ → List (Option Capability)
 program_caps p n =
-    all_rights n ∷ all_rights (n + 1) ∷ map (λ channel. if_set p channel (FIRST_OUTPUT_RING + channel)) (range_with_len 0 OUTPUT_CHANNELS) ++ if_set p OUTPUT_CHANNELS INPUT_RING ∷ if_set p (OUTPUT_CHANNELS + 1) ROOT_GROUP ∷ map all_rights (range_with_len (n + 2) (length p.regions.items + p.threads))
+    all_rights n ∷ all_rights (n + 1)
+    ∷ map (λ channel. if_set p channel (FIRST_OUTPUT_RING + channel)) (range_with_len 0 OUTPUT_CHANNELS)
+    ++ if_set p OUTPUT_CHANNELS INPUT_RING ∷ if_set p (OUTPUT_CHANNELS + 1) ROOT_GROUP
+    ∷ map all_rights (range_with_len (n + 2) (length p.regions.items + p.threads))
 
 -- a region over a memory object, from its first page on
 abbrev pub region_over : RegionSpec → ℕ → Region
-region_over spec n = record { base = spec.base / PAGE_BYTES; count = spec.pages; first = 0; memory = n; rights = spec.rights }
+region_over spec n = record {
+  base = spec.base / PAGE_BYTES;
+  count = spec.pages;
+  first = 0;
+  memory = n;
+  rights = spec.rights;
+}
 
 -- the regions by rising base; their memory objects are numbered from n on
 abbrev pub program_regions : List RegionSpec → ℕ → List Region
@@ -72,11 +80,18 @@ program_memories (spec ∷ specs) k = memory_of spec k ∷ program_memories spec
 -- thread j begins at the entry with its first argument j
 abbrev pub program_thread : Program → ℕ → ℕ → Object
 program_thread p n j =
-    Thread (record { group = n; space = n + 1; state = Ready; pc = p.entry; x = slice_set zero_registers FIRST_ARGUMENT j })
+    Thread (record {
+      group = n;
+      space = n + 1;
+      state = Ready;
+      pc = p.entry;
+      x = slice_set zero_registers FIRST_ARGUMENT j;
+    })
 
 abbrev pub program_objects : Program → ℕ → ℕ → List Object
 program_objects p n k =
-    Group (slots_with (program_caps p n)) ∷ Space (program_regions p.regions.items (n + 2)) ∷ program_memories p.regions.items k ++ map (program_thread p n) (range_with_len 0 p.threads)
+    Group (slots_with (program_caps p n)) ∷ Space (program_regions p.regions.items (n + 2))
+    ∷ program_memories p.regions.items k ++ map (program_thread p n) (range_with_len 0 p.threads)
 
 -- All programs, one after another.
 
@@ -95,7 +110,8 @@ root_group ps = Group (slots_with (map all_rights (group_numbers ps FIRST_PROGRA
 -- the objects in order of number
 unfoldable pub image_objects : List Program → List Object
 image_objects ps =
-    root_group ps ∷ Scheduler ∷ map OutputRing (range_with_len 0 OUTPUT_CHANNELS) ++ InputRing ∷ programs_objects ps FIRST_PROGRAM_OBJECT FIRST_PROGRAM_PAGE
+    root_group ps ∷ Scheduler ∷ map OutputRing (range_with_len 0 OUTPUT_CHANNELS) ++ InputRing
+    ∷ programs_objects ps FIRST_PROGRAM_OBJECT FIRST_PROGRAM_PAGE
 
 -- the threads stand in the run queue in order of number
 abbrev pub thread_numbers : List Object → List ℕ

@@ -11,7 +11,9 @@ use Rattle.plain_model.specs.Initial.{all_rights, if_set, root_group}
 -- those of a program's capabilities that come before its memory objects and its threads
 abbrev pub channel_caps : Program → ℕ → List (Option Capability)
 channel_caps p n =
-    all_rights n ∷ all_rights (n + 1) ∷ map (λ channel. if_set p channel (FIRST_OUTPUT_RING + channel)) (range_with_len 0 OUTPUT_CHANNELS) ++ if_set p OUTPUT_CHANNELS INPUT_RING ∷ if_set p (OUTPUT_CHANNELS + 1) ROOT_GROUP ∷ []
+    all_rights n ∷ all_rights (n + 1)
+    ∷ map (λ channel. if_set p channel (FIRST_OUTPUT_RING + channel)) (range_with_len 0 OUTPUT_CHANNELS)
+    ++ if_set p OUTPUT_CHANNELS INPUT_RING ∷ if_set p (OUTPUT_CHANNELS + 1) ROOT_GROUP ∷ []
 
 -- the objects that are no program's
 abbrev pub fixed_objects : List Program → List Object

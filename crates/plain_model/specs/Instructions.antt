@@ -14,7 +14,8 @@ use Rattle.plain_model.specs.Objects.{regions_of}
 use Rattle.plain_model.specs.States.{State}
 use Rattle.plain_model.specs.Memory.{is_covered, places_of, byte_at, stores_at, number_of_bytes, bytes_of_number}
 use Rattle.plain_model.specs.Worlds.{World}
-use Rattle.plain_model.specs.Effects.{Effect, INSTRUCTION_BYTES, goes_on, stops, regs_of, next_pc}
+use Rattle.sls_base.specs.declared.limits.TheConstants.{INSTRUCTION_BYTES}
+use Rattle.plain_model.specs.Effects.{Effect, goes_on, stops, regs_of, next_pc}
 use Rattle.plain_model.specs.CallEffects.{ecall}
 
 -- the regions of a thread's space
@@ -29,7 +30,10 @@ abbrev pub load_effect : State → ThreadRecord → ℕ → ℕ → ℕ → Effe
 load_effect s thread op rd at =
     let places = places_of (seen_by s thread) READ at (size_of op) in
     if is_covered (seen_by s thread) READ at (size_of op)
-    then record (goes_on (record { pc = next_pc thread; x = with_register thread.x rd (extended op (value_at s places)) })) { loads = places }
+    then record (goes_on (record {
+      pc = next_pc thread;
+      x = with_register thread.x rd (extended op (value_at s places));
+    })) { loads = places }
     else stops thread NO_ACCESS
 
 abbrev pub store_effect : State → ThreadRecord → ℕ → ℕ → ℕ → Effect

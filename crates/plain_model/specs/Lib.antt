@@ -14,9 +14,6 @@ pub mod Play
 pub mod MayStep
 pub mod Cost
 pub mod Initial
-pub mod Places
-pub mod Sound
-pub mod Laws
 pub mod InPages
 pub mod Slow
 pub mod SlowWorld

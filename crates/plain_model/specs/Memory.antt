@@ -10,7 +10,8 @@ use Rattle.plain_model.specs.Objects.{Object, Memory, Page, pages_of, new_page, 
 -- a region covers an address with a right
 abbrev pub covers : ℕ → ℕ → Region → Bool
 covers right address region =
-    includes region.rights right && (nat_le region.base (address / PAGE_BYTES) && nat_lt (address / PAGE_BYTES) (region.base + region.count))
+    includes region.rights right
+    && (nat_le region.base (address / PAGE_BYTES) && nat_lt (address / PAGE_BYTES) (region.base + region.count))
 
 -- where the byte at an address stands that a region covers
 abbrev pub place_in : ℕ → Region → Place

@@ -1,8 +1,9 @@
 -- The objects of the kernel as plain values. A list stands where the kernel has links, and a page has its bytes: no place
 -- in the memory, no version, no mark.
-use Rattle.std.specs.Prelude.{ℕ, Bool, true, false, List, [], ◌∷◌, map, Option, Some, None, ◌==◌, nat_lt, if◌then◌else◌, bit_and, replicate}
+use Rattle.std.specs.Prelude.{ℕ, Bool, true, false, List, [], ◌∷◌, map, Option, Some, None, ◌==◌, nat_lt, if◌then◌else◌, replicate}
 use Rattle.std.specs.List.{range_with_len}
 use Rattle.sls_base.specs.declared.limits.TheConstants.{GROUP_SLOTS, OBJECTS, PAGES}
+use Rattle.sls_base.specs.Rights.{has_rights}
 use Rattle.sls_base.specs.declared.thread.Thread.{Thread as ThreadRecord}
 use Rattle.plain_model.specs.declared.objects.Capability.{Capability}
 use Rattle.plain_model.specs.declared.objects.Region.{Region}
@@ -107,4 +108,4 @@ is_kind _ _ = false
 -- Rights are the sum of 1 read, 2 write, 4 execute and 8 grant: each right wanted is among those that are had. A number with
 -- a higher bit has a right that nothing has.
 abbrev pub includes : ℕ → ℕ → Bool
-includes had wanted = bit_and had wanted == wanted
+includes had wanted = has_rights had wanted

@@ -6,7 +6,8 @@ use Rattle.plain_model.specs.declared.calls.Refusal.TheVariants.{BadCall, NoCap,
 -- Each refusal is tested for all arguments before the next one. Before them all comes BadCall, where no call is named.
 abbrev pub refusal_order : List Refusal
 refusal_order =
-    NoCap ∷ WrongKind ∷ NoRight ∷ BadAddress ∷ BadSize ∷ Overlap ∷ NoSlot ∷ NoObjects ∷ NoPages ∷ NoRegions ∷ Full ∷ Empty ∷ Taken ∷ []
+    NoCap ∷ WrongKind ∷ NoRight ∷ BadAddress ∷ BadSize ∷ Overlap ∷ NoSlot ∷ NoObjects ∷ NoPages ∷ NoRegions ∷ Full
+    ∷ Empty ∷ Taken ∷ []
 
 -- the n of the refusal that is answered as -n
 abbrev pub refusal_rank : Refusal → ℕ

@@ -7,13 +7,15 @@ use Rattle.plain_model.specs.declared.effect.Place.{Place}
 use Rattle.plain_model.specs.declared.reach.Reach.{Reach}
 use Rattle.plain_model.specs.States.{State}
 use Rattle.plain_model.specs.Memory.{is_covered, page_at, places_of}
-use Rattle.plain_model.specs.Effects.{Effect, INSTRUCTION_BYTES}
+use Rattle.sls_base.specs.declared.limits.TheConstants.{INSTRUCTION_BYTES}
+use Rattle.plain_model.specs.Effects.{Effect}
 use Rattle.plain_model.specs.Instructions.{seen_by, fetched, value_at}
 
 -- the word at a thread's pc, if it can be fetched
 abbrev pub word_at_pc : State → ThreadRecord → Option ℕ
 word_at_pc s thread =
-    if is_covered (seen_by s thread) EXECUTE thread.pc INSTRUCTION_BYTES then Some (value_at s (fetched s thread)) else None
+    if is_covered (seen_by s thread) EXECUTE thread.pc INSTRUCTION_BYTES then Some (value_at s (fetched s thread))
+    else None
 
 -- one of some places is on a page
 abbrev pub is_any_on : State → ℕ → List Place → Bool

@@ -32,7 +32,8 @@ leads_to _ i = false
 -- a path of at most n edges leads to it
 unfoldable pub is_within : State → ℕ → ℕ → Bool
 is_within s zero i = nat_lt i FIRST_PROGRAM_OBJECT
-is_within s (suc n) i = is_within s n i || list_any (λ from. is_within s n from && leads_to (s.objects from) i) every_object
+is_within s (suc n) i = is_within s n i
+    || list_any (λ from. is_within s n from && leads_to (s.objects from) i) every_object
 
 unfoldable pub is_reached : State → ℕ → Bool
 is_reached s i = is_within s OBJECTS i
@@ -61,7 +62,13 @@ kept s id = if is_lost s id then None else id
 -- an object without the threads that have vanished, and a thread stopped that waited for what has vanished
 abbrev pub settled : State → Object → Object
 settled s (Thread thread) =
-    Thread (record { group = thread.group; space = thread.space; state = settled_state s thread.state; pc = thread.pc; x = thread.x })
+    Thread (record {
+      group = thread.group;
+      space = thread.space;
+      state = settled_state s thread.state;
+      pc = thread.pc;
+      x = thread.x;
+    })
 settled s (Connection server client clients) = Connection server (kept s client) (filter (is_reached s) clients)
 settled s (Notification count waiters) = Notification count (filter (is_reached s) waiters)
 settled s other = other

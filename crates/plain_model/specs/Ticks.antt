@@ -77,14 +77,16 @@ with_changes objects (change ∷ changes) = with_changes (with_object objects ch
 
 abbrev pub with_output : (ℕ → List (List ℕ)) → Option Output → ℕ → List (List ℕ)
 with_output out None channel = out channel
-with_output out (Some output) channel = if channel == output.channel then out channel ++ output.bytes.items ∷ [] else out channel
+with_output out (Some output) channel =
+    if channel == output.channel then out channel ++ output.bytes.items ∷ [] else out channel
 
 -- The state after an effect of the thread that a core runs, where the thread then goes on or leaves. Threads that it makes Ready
 -- stand in the queue before it.
 abbrev pub state_with : State → ℕ → Chosen → Goes → Effect → State
 state_with s core c goes e =
     let id = c.occupant.thread in record {
-      objects = with_object (with_changes (with_stores s.objects e.stores) e.changes) id (Thread (thread_after core (thread_at s id) goes e));
+      objects = with_object (with_changes (with_stores s.objects e.stores) e.changes) id
+          (Thread (thread_after core (thread_at s id) goes e));
       queue = c.queue ++ e.wakes ++ at_back id goes;
       cores = slice_set s.cores core (on_core id (c.occupant.slice - 1) goes);
       out = with_output s.out e.output;
@@ -120,7 +122,8 @@ stores_to s e page =
 -- stored to, and the ring of an entry
 abbrev pub writes : Effect → ℕ → Bool
 writes e i =
-    list_any (λ change. change.id == i) e.changes || (list_any (λ store. store.place.memory == i) e.stores || puts_to_ring e.output i)
+    list_any (λ change. change.id == i) e.changes
+    || (list_any (λ store. store.place.memory == i) e.stores || puts_to_ring e.output i)
 
 -- Ticks.
 

@@ -10,7 +10,7 @@ pub const FIRST_ARGUMENT: usize = 10;
 pub const ANSWER: usize = 10;
 
 /// Why a call is refused.
-#[derive(Clone, Copy, Debug, PartialEq, Eq)]
+#[derive(Clone, Copy)]
 pub enum Refusal {
     BadCall,
     NoCap,
@@ -29,7 +29,7 @@ pub enum Refusal {
 }
 
 /// The calls, by their numbers from 0 on.
-#[derive(Clone, Copy, Debug, PartialEq, Eq)]
+#[derive(Clone, Copy)]
 pub enum Call {
     Yield,
     Halt,
@@ -53,7 +53,7 @@ pub enum Call {
 }
 
 /// What a call needs: that an argument names an object of a kind by a capability with some rights.
-#[derive(Clone, Copy, Debug, PartialEq, Eq)]
+#[derive(Clone, Copy)]
 pub struct Need {
     pub argument: u8,
     pub kind: Kind,

@@ -1,6 +1,6 @@
 //! What a checkpoint may cost.
 
-ghost use Rattle.std.specs.Prelude.{◌≡◌, ◌≤◌, is_some};
+ghost use Rattle.std.specs.Prelude.{◌≡◌, ◌+◌, ◌*◌, ◌≤◌, is_some};
 ghost use Rattle.sls_base.specs.declared.limits.TheConstants.{OBJECTS, PAGES};
 ghost use Rattle.plain_model.specs.Objects.{every_object, every_page};
 ghost use Rattle.plain_model.specs.Cost as plain;
@@ -8,20 +8,13 @@ ghost use Rattle.plain_model.specs.Worlds.{has_page};
 ghost use Rattle.plain_model.specs.Sweep.{swept};
 ghost use Rattle.plain_model.specs.Slow.{state_of};
 ghost use Rattle.plain_model.specs.SlowSweep.{TellsReached};
-ghost use Rattle.plain_model.specs.SlowWorld.{world_of, is_in};
+ghost use Rattle.plain_model.specs.SlowWorld.{world_of};
 
 use crate::object::has_page_number;
 use crate::state::{OBJECT_END, PAGE_END, State};
 use crate::sweep::Reached;
-use crate::world::World;
+use crate::world::{World, has_number};
 use sls_base::{ObjId, PageNo};
-
-/// Whether a number is one of some.
-fn is_among(numbers: &[u16], number: u16) -> bool
-    ensures { result ≡ is_in numbers.now number }
-{
-    numbers.iter().any(|other| *other == number)
-}
 
 /// Whether a state has an object of a number.
 fn has_object(state: &State, id: ObjId) -> bool
@@ -33,34 +26,39 @@ fn has_object(state: &State, id: ObjId) -> bool
 #[tactic(auto, unfolding(crate::specs::SlowWorld::world_of))]
 impl World {
     fn is_written(&self, reached: &Reached, id: ObjId) -> bool
-        ensures { TellsReached reached.now (state_of self.now.running) → result ≡ plain.is_written (world_of self.now) id }
+        ensures { TellsReached reached.now (state_of self.now.running) → result
+            ≡ plain.is_written (world_of self.now) id }
     {
-        is_among(self.changed.as_slice(), u16::from(id))
+        has_number(self.changed.as_slice(), u16::from(id))
             || self.running.is_swept_otherwise(reached, id)
     }
 
     /// Whether a page is one of an object that is reached.
     fn keeps_page(&self, reached: &Reached, page: PageNo) -> bool
-        ensures { TellsReached reached.now (state_of self.now.running) → result ≡ has_page (swept (state_of self.now.running)) page }
+        ensures { TellsReached reached.now (state_of self.now.running) → result
+            ≡ has_page (swept (state_of self.now.running)) page }
     {
         (0..OBJECT_END).any(|id| reached.has(id) && has_page_number(self.running.object(id), page))
     }
 
     /// Whether an object is there, and is reached.
     fn keeps_object(&self, reached: &Reached, id: ObjId) -> bool
-        ensures { TellsReached reached.now (state_of self.now.running) → result ≡ is_some ((swept (state_of self.now.running)).objects id) }
+        ensures { TellsReached reached.now (state_of self.now.running) → result
+            ≡ is_some ((swept (state_of self.now.running)).objects id) }
     {
         reached.has(id) && has_object(&self.running, id)
     }
 
     fn object_turns(&self, reached: &Reached, id: ObjId) -> bool
-        ensures { TellsReached reached.now (state_of self.now.running) → result ≡ plain.object_turns (world_of self.now) id }
+        ensures { TellsReached reached.now (state_of self.now.running) → result
+            ≡ plain.object_turns (world_of self.now) id }
     {
         has_object(&self.saved, id) != self.keeps_object(reached, id)
     }
 
     fn page_turns(&self, reached: &Reached, page: PageNo) -> bool
-        ensures { TellsReached reached.now (state_of self.now.running) → result ≡ plain.page_turns (world_of self.now) page }
+        ensures { TellsReached reached.now (state_of self.now.running) → result
+            ≡ plain.page_turns (world_of self.now) page }
     {
         self.saved.has_page(page) != self.keeps_page(reached, page)
     }
@@ -70,7 +68,7 @@ impl World {
         ensures few { result ≤ PAGES }
     {
         (0..PAGE_END)
-            .filter(|page| is_among(self.stored.as_slice(), *page))
+            .filter(|page| has_number(self.stored.as_slice(), *page))
             .count()
     }
 
@@ -106,7 +104,8 @@ impl World {
 
     /// What a checkpoint may cost, in operations on the memory.
     pub fn cost(&self) -> u32
-        ensures { result ≡ plain.cost (world_of self.now) }
+        ensures cost { result ≡ plain.cost (world_of self.now) }
+        ensures most { result ≤ 8 * (PAGES + OBJECTS + OBJECTS + PAGES) + 64 }
     {
         let reached = self.running.reached();
         let count = self.count_of_stored()

@@ -59,7 +59,8 @@ impl World {
 
     /// A call that makes an object.
     fn makes(&self, alloc: Global, thread: &Thread, object: Object) -> Result<Effect, AllocError>
-        ensures { IfOk result (λ e. (effect_of e ≡ plain.makes (world_of self.now) thread.now (object_of object)) × StoresInPages e) }
+        ensures { IfOk result (λ e. (effect_of e ≡ plain.makes (world_of self.now) thread.now (object_of object))
+            × StoresInPages e) }
     {
         let id = self.new_id();
         let slots = slots_of(self.running.object(thread.group));
@@ -77,7 +78,8 @@ impl World {
 
     /// A memory object of so many new pages.
     fn new_memory(&self, alloc: Global, count: u32) -> Result<Object, AllocError>
-        ensures { IfOk result (λ object. object_of object ≡ objects.new_memory (take count (free_pages (world_of self.now)))) }
+        ensures { IfOk result (λ object. object_of object
+            ≡ objects.new_memory (take count (free_pages (world_of self.now)))) }
     {
         let mut numbers = self.free_pages(alloc)?;
         numbers.truncate(count as usize);
@@ -85,7 +87,8 @@ impl World {
     }
 
     fn thread_effect(&self, alloc: Global, thread: &Thread) -> Result<Effect, AllocError>
-        ensures { IfOk result (λ e. (effect_of e ≡ plain.thread_effect (world_of self.now) thread.now) × StoresInPages e) }
+        ensures { IfOk result (λ e. (effect_of e ≡ plain.thread_effect (world_of self.now) thread.now)
+            × StoresInPages e) }
     {
         let new = new_thread(&self.running, thread);
         let mut effect = self.makes(alloc, thread, Object::Thread(new))?;
@@ -103,7 +106,8 @@ impl World {
         call: Call,
     ) -> Result<Effect, AllocError>
         requires { refusals.refusal_of (world_of self.now) id thread.now call ≡ None }
-        ensures { IfOk result (λ e. (effect_of e ≡ plain.effect_of_call (world_of self.now) id thread.now call) × StoresInPages e) }
+        ensures { IfOk result (λ e. (effect_of e ≡ plain.effect_of_call (world_of self.now) id thread.now call)
+            × StoresInPages e) }
     {
         let now = &self.running;
         match call {

@@ -4,7 +4,7 @@ use arrayvec::ArrayVec;
 use sls_base::{ObjId, ThreadState};
 
 /// Where a byte stands: the memory object, its page there, and the byte's offset in that page.
-#[derive(Clone, Copy, Debug, PartialEq, Eq)]
+#[derive(Clone, Copy)]
 pub struct Place {
     pub memory: ObjId,
     pub page: u64,
@@ -12,7 +12,7 @@ pub struct Place {
 }
 
 /// A byte that is stored.
-#[derive(Clone, Copy, Debug, PartialEq, Eq)]
+#[derive(Clone, Copy)]
 pub struct ByteStore {
     pub place: Place,
     pub value: u8,
@@ -27,7 +27,7 @@ pub struct Output {
 
 /// What becomes of a thread: it goes on, goes to the queue's back, leaves its core and waits as a state says, or stops with a
 /// cause.
-#[derive(Clone, Copy, Debug, PartialEq, Eq)]
+#[derive(Clone, Copy)]
 pub enum Goes {
     On,
     Back,

@@ -6,10 +6,10 @@ ghost use Rattle.plain_model.specs.Initial.{IsAccepted, IsApart, IsEntered, IsPr
 
 use crate::initial::program_size;
 use crate::object::includes;
-use crate::slow_effect::INSTRUCTION_BYTES;
+use crate::page::PAGE;
 use sls_base::{
-    EXECUTE, FIRST_PROGRAM_OBJECT, FIRST_PROGRAM_PAGE, Image, MEMORY_PAGES, OBJECTS,
-    OUTPUT_CHANNELS, PAGE_BYTES, PAGES, Program, REGION_RIGHTS, RegionSpec,
+    ADDRESSES, EXECUTE, FIRST_PROGRAM_OBJECT, FIRST_PROGRAM_PAGE, INSTRUCTION_BYTES, Image,
+    MEMORY_PAGES, OBJECTS, OUTPUT_CHANNELS, PAGE_BYTES, PAGES, Program, REGION_RIGHTS, RegionSpec,
 };
 
 /// The programs of an image.
@@ -18,12 +18,6 @@ pub const PROGRAMS: usize = 16;
 pub const PROGRAM_THREADS: u8 = 8;
 /// The regions of a program.
 pub const PROGRAM_REGIONS: usize = 16;
-
-/// The bytes of a page, as addresses are counted.
-const PAGE: u64 = PAGE_BYTES as u64;
-
-/// The addresses of 32 bits.
-const ADDRESSES: u64 = 1 << 32;
 
 /// The address behind a region.
 fn end_of(spec: &RegionSpec) -> u64
@@ -113,7 +107,8 @@ fn is_program(program: &Program) -> bool
 
 /// Whether programs are some and not too many, each within the limits.
 fn are_programs(programs: &[Program]) -> bool
-    ensures { (result ≡ true) ↔ ((1 ≤ length programs.now) × (length programs.now ≤ PROGRAMS) × All IsProgram programs.now) }
+    ensures { (result ≡ true) ↔
+        ((1 ≤ length programs.now) × (length programs.now ≤ PROGRAMS) × All IsProgram programs.now) }
 {
     1 <= programs.len() && programs.len() <= PROGRAMS && programs.iter().all(is_program)
 }

@@ -182,7 +182,8 @@ fn add_memories(
     k: PageNo,
 ) -> Result<(), AllocError>
     requires { k + sum_by plain.pages_taken specs.now ≤ PAGES }
-    ensures { OnOk result (map object_of list.new.items ≡ map object_of list.old.items ++ plain.program_memories specs.now k) }
+    ensures { OnOk result (map object_of list.new.items ≡ map object_of list.old.items
+        ++ plain.program_memories specs.now k) }
 {
     let mut next = k;
     for spec in specs {
@@ -203,7 +204,8 @@ fn add_program(
     requires program { IsProgram program.now }
     requires objects { n + plain.program_size program.now ≤ OBJECTS }
     requires pages { k + plain.program_pages program.now ≤ PAGES }
-    ensures { OnOk result (map object_of list.new.items ≡ map object_of list.old.items ++ plain.program_objects program.now n k) }
+    ensures { OnOk result (map object_of list.new.items ≡ map object_of list.old.items
+        ++ plain.program_objects program.now n k) }
 {
     list.push(Object::Group(program_slots(program, n)))?;
     let regions = program_regions(alloc, program.regions.as_slice(), n.wrapping_add(2))?;
@@ -310,7 +312,8 @@ fn is_thread(object: &Object) -> bool
 /// The numbers of the threads, in order.
 fn thread_numbers(alloc: Global, list: &[Object]) -> Result<Vec<ObjId>, AllocError>
     requires { length list.now ≤ OBJECTS }
-    ensures { IfOk result (λ queue. queue.items ≡ filter (λ i. objects.is_thread (slice_get (map object_of list.now) i)) (range_with_len 0 (length list.now))) }
+    ensures { IfOk result (λ queue. queue.items
+        ≡ filter (λ i. objects.is_thread (slice_get (map object_of list.now) i)) (range_with_len 0 (length list.now))) }
 {
     let mut queue = Vec::new(alloc);
     for i in 0..list.len() {

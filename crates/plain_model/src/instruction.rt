@@ -15,12 +15,12 @@ use crate::effect::Place;
 use crate::memory::{is_covered, places_of, stores_at};
 use crate::object::regions_of;
 use crate::objects::Region;
-use crate::slow_effect::{Effect, INSTRUCTION_BYTES, next_pc, regs_of};
+use crate::slow_effect::{Effect, next_pc, regs_of};
 use crate::state::State;
 use crate::world::World;
 use rv_core::{Plan, Regs, access_size, extend, plan};
 use rv_table::decode;
-use sls_base::{EXECUTE, ILLEGAL_WORD, NO_ACCESS, ObjId, READ, Thread, WRITE};
+use sls_base::{EXECUTE, ILLEGAL_WORD, INSTRUCTION_BYTES, NO_ACCESS, ObjId, READ, Thread, WRITE};
 use std::alloc::{AllocError, Global};
 
 /// A thread's registers after a write, which is lost at register 0.
@@ -64,7 +64,8 @@ impl State {
     ) -> Result<Effect, AllocError>
         requires op { IsOneOf op load_ops }
         requires rd { rd < REGISTERS }
-        ensures { IfOk result (λ e. (effect_of e ≡ plain.load_effect (state_of self.now) thread.now op rd at) × StoresInPages e) }
+        ensures { IfOk result (λ e. (effect_of e ≡ plain.load_effect (state_of self.now) thread.now op rd at)
+            × StoresInPages e) }
     {
         let (regions, right, size) = (self.seen_by(thread), u32::from(READ), access_size(op));
         if !is_covered(regions, right, at, size) {
@@ -86,7 +87,8 @@ impl State {
         value: u32,
     ) -> Result<Effect, AllocError>
         requires { IsOneOf op store_ops }
-        ensures { IfOk result (λ e. (effect_of e ≡ plain.store_effect (state_of self.now) thread.now op at value) × StoresInPages e) }
+        ensures { IfOk result (λ e. (effect_of e ≡ plain.store_effect (state_of self.now) thread.now op at value)
+            × StoresInPages e) }
     {
         let (regions, right, size) = (self.seen_by(thread), u32::from(WRITE), access_size(op));
         if !is_covered(regions, right, at, size) {
@@ -132,7 +134,8 @@ impl World {
         plan: Plan,
     ) -> Result<Effect, AllocError>
         requires { IsPlan plan }
-        ensures { IfOk result (λ e. (effect_of e ≡ plain.carried_out (world_of self.now) id thread.now plan) × StoresInPages e) }
+        ensures { IfOk result (λ e. (effect_of e ≡ plain.carried_out (world_of self.now) id thread.now plan)
+            × StoresInPages e) }
     {
         match plan {
             Plan::Set { rd, value, pc } => Ok(Effect::goes_on(
@@ -156,7 +159,8 @@ impl World {
         thread: &Thread,
         word: u32,
     ) -> Result<Effect, AllocError>
-        ensures { IfOk result (λ e. (effect_of e ≡ plain.obeyed (world_of self.now) id thread.now (decoded word)) × StoresInPages e) }
+        ensures { IfOk result (λ e. (effect_of e ≡ plain.obeyed (world_of self.now) id thread.now (decoded word))
+            × StoresInPages e) }
     {
         match decode(word) {
             Some(instr) => self.carried_out(alloc, id, thread, plan(instr, &regs_of(thread))),
@@ -171,7 +175,8 @@ impl World {
         id: ObjId,
         thread: &Thread,
     ) -> Result<Effect, AllocError>
-        ensures { IfOk result (λ e. (effect_of e ≡ plain.instruction (world_of self.now) id thread.now) × StoresInPages e) }
+        ensures { IfOk result (λ e. (effect_of e ≡ plain.instruction (world_of self.now) id thread.now)
+            × StoresInPages e) }
     {
         let Some(word) = self.running.word_at_pc(thread) else {
             return Ok(Effect::stops(alloc, thread, NO_ACCESS));

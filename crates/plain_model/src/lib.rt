@@ -1,7 +1,6 @@
 //! The plain machine: whole states of the kernel's objects, and one saved copy of them.
 //!
-//! Its definitions are in `specs/`, from `Objects` to `Play`, and what shows that they are the right ones in `laws`. `World` is
-//! its slow form.
+//! Its definitions are in `specs/`, from `Objects` to `Play`. `World` is its slow form.
 #![tactic(auto)]
 
 mod calls;
@@ -13,7 +12,6 @@ mod image;
 mod initial;
 mod instruction;
 mod label;
-pub mod laws;
 mod may_step;
 mod memory;
 mod object;
@@ -35,12 +33,11 @@ pub use calls::{ANSWER, CALL_NUMBER, Call, FIRST_ARGUMENT, Need, Refusal};
 pub use effect::{ByteStore, Goes, Output, Place};
 pub use image::{PROGRAM_REGIONS, PROGRAM_THREADS, PROGRAMS, is_accepted};
 pub use label::{Label, Reply};
+pub use memory::{covers, is_covered, place_of};
+pub use object::Object;
 pub use objects::{Capability, Kind, Occupant, Region};
+pub use page::Page;
+pub use reach::{Reach, Span};
+pub use slow_calls::{REFUSAL_ORDER, arg, needs};
+pub use state::{State, Waiting};
 pub use world::World;
-
-#[cfg(test)]
-mod test_programs;
-#[cfg(test)]
-mod tests;
-#[cfg(test)]
-mod thread_tests;

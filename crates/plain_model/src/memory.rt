@@ -8,11 +8,9 @@ ghost use Rattle.plain_model.specs.InPages.{IsInPage, StoresInPage};
 use crate::effect::{ByteStore, Place};
 use crate::object::includes;
 use crate::objects::Region;
+use crate::page::PAGE;
 use sls_base::PAGE_BYTES;
 use std::alloc::{AllocError, Global};
-
-/// The bytes of a page, as addresses are counted.
-const PAGE: u64 = PAGE_BYTES as u64;
 
 /// Whether a region covers an address with a right.
 pub fn covers(region: &Region, right: u32, at: u64) -> bool

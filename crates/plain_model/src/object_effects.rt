@@ -12,6 +12,7 @@ use crate::effect::{Output, Place};
 use crate::memory::{places_of, stores_at};
 use crate::object::{Object, copy_of_slots, regions_of, slots_of};
 use crate::objects::{Capability, Region};
+use crate::page::PAGE;
 use crate::refusals::free_slot;
 use crate::slow_calls::arg;
 use crate::slow_effect::{Change, Effect};
@@ -19,9 +20,6 @@ use crate::state::State;
 use arrayvec::ArrayVec;
 use sls_base::{ObjId, PAGE_BYTES, READ, Thread, WRITE};
 use std::alloc::{AllocError, Global};
-
-/// The bytes of a page.
-const PAGE: u32 = PAGE_BYTES as u32;
 
 /// An object that gets a value, or is made.
 pub fn change(id: ObjId, object: Object) -> Change
@@ -89,7 +87,7 @@ fn new_region(state: &State, thread: &Thread) -> Region
     ensures { result ≡ plain.new_region (state_of state.now) thread.now }
 {
     Region {
-        base: arg(thread, 2) / PAGE,
+        base: arg(thread, 2) / PAGE as u32,
         count: arg(thread, 4),
         first: arg(thread, 3),
         memory: state.id_named(thread, 1),
@@ -103,9 +101,10 @@ fn left_by_unmap(
     regions: &[Region],
     thread: &Thread,
 ) -> Result<Vec<Region>, AllocError>
-    ensures { IfOk result (λ left. left.items ≡ filter (λ region. not (region.base == calls.arg thread.now 1 / PAGE_BYTES)) regions.now) }
+    ensures { IfOk result (λ left. left.items
+        ≡ filter (λ region. not (region.base == calls.arg thread.now 1 / PAGE_BYTES)) regions.now) }
 {
-    let base = arg(thread, 1) / PAGE;
+    let base = arg(thread, 1) / PAGE as u32;
     let mut left = Vec::new(alloc);
     for region in regions {
         if region.base != base {
@@ -133,7 +132,8 @@ pub fn answers_with(
     answer: u32,
     change: Change,
 ) -> Result<Effect, AllocError>
-    ensures { IfOk result (λ e. (effect_of e ≡ plain.answers_with thread.now answer (change_of change ∷ [])) × StoresInPages e) }
+    ensures { IfOk result (λ e. (effect_of e ≡ plain.answers_with thread.now answer (change_of change ∷ []))
+        × StoresInPages e) }
 {
     let mut effect = Effect::answers(alloc, thread, answer);
     effect.changes.push(change)?;
@@ -209,7 +209,8 @@ impl State {
     }
 
     pub(crate) fn unmap_effect(&self, alloc: Global, thread: &Thread) -> Result<Effect, AllocError>
-        ensures { IfOk result (λ e. (effect_of e ≡ plain.unmap_effect (state_of self.now) thread.now) × StoresInPages e) }
+        ensures { IfOk result (λ e. (effect_of e ≡ plain.unmap_effect (state_of self.now) thread.now)
+            × StoresInPages e) }
     {
         let regions = regions_of(self.named(thread, 0));
         let left = left_by_unmap(alloc, regions, thread)?;
@@ -218,7 +219,8 @@ impl State {
     }
 
     pub(crate) fn copy_effect(&self, alloc: Global, thread: &Thread) -> Result<Effect, AllocError>
-        ensures { IfOk result (λ e. (effect_of e ≡ plain.copy_effect (state_of self.now) thread.now) × StoresInPages e) }
+        ensures { IfOk result (λ e. (effect_of e ≡ plain.copy_effect (state_of self.now) thread.now)
+            × StoresInPages e) }
     {
         let slots = slots_of(self.named(thread, 1));
         let cap = Capability {
@@ -230,7 +232,8 @@ impl State {
     }
 
     pub(crate) fn drop_effect(&self, alloc: Global, thread: &Thread) -> Result<Effect, AllocError>
-        ensures { IfOk result (λ e. (effect_of e ≡ plain.drop_effect (state_of self.now) thread.now) × StoresInPages e) }
+        ensures { IfOk result (λ e. (effect_of e ≡ plain.drop_effect (state_of self.now) thread.now)
+            × StoresInPages e) }
     {
         let slots = slots_of(self.named(thread, 0));
         let left = with_slot(slots, arg(thread, 1) as usize, None);

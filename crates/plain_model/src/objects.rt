@@ -3,7 +3,7 @@
 use sls_base::ObjId;
 
 /// A capability: an object, and the rights to it.
-#[derive(Clone, Copy, Debug, PartialEq, Eq)]
+#[derive(Clone, Copy)]
 pub struct Capability {
     pub object: ObjId,
     pub rights: u32,
@@ -11,7 +11,7 @@ pub struct Capability {
 
 /// A region of a space: `count` pages of a memory object, from page `first` on, at the addresses from page `base` on, with
 /// some of the rights read, write and execute.
-#[derive(Clone, Copy, Debug, PartialEq, Eq)]
+#[derive(Clone, Copy)]
 pub struct Region {
     pub base: u32,
     pub count: u32,
@@ -21,14 +21,14 @@ pub struct Region {
 }
 
 /// A core's thread, and what is left of its slice.
-#[derive(Clone, Copy, Debug, PartialEq, Eq)]
+#[derive(Clone, Copy)]
 pub struct Occupant {
     pub thread: ObjId,
     pub slice: u8,
 }
 
 /// What a call may want of an object that it names.
-#[derive(Clone, Copy, Debug, PartialEq, Eq)]
+#[derive(Clone, Copy)]
 pub enum Kind {
     AnyKind,
     GroupKind,

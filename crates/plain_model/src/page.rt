@@ -6,6 +6,9 @@ ghost use Rattle.sls_base.specs.declared.limits.TheConstants.{PAGE_BYTES};
 use sls_base::{PAGE_BYTES, PageNo};
 use std::alloc::{AllocError, Global};
 
+/// The bytes of a page, as addresses are counted.
+pub const PAGE: u64 = PAGE_BYTES as u64;
+
 /// A page: its number and its 4,096 bytes.
 #[derive(Drop)]
 pub struct Page {

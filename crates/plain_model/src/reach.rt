@@ -21,22 +21,22 @@ use crate::memory::{is_covered, place_of};
 use crate::object_effects::channel_of;
 use crate::objects::Region;
 use crate::slow_calls::arg;
-use crate::slow_effect::{INSTRUCTION_BYTES, regs_of};
+use crate::slow_effect::regs_of;
 use crate::state::State;
 use crate::world::World;
 use rv_core::{Plan, access_size, plan};
 use rv_table::decode;
-use sls_base::{CoreNo, EXECUTE, ObjId, PageNo, READ, Thread, WRITE};
+use sls_base::{CoreNo, EXECUTE, INSTRUCTION_BYTES, ObjId, PageNo, READ, Thread, WRITE};
 
 /// Bytes by their addresses: so many from one on.
-#[derive(Clone, Copy, Debug, PartialEq, Eq)]
+#[derive(Clone, Copy)]
 pub struct Span {
     pub at: u32,
     pub count: u32,
 }
 
 /// What an instruction reaches beside its own bytes: those that it loads, those that it stores, and the channel on which it puts.
-#[derive(Clone, Copy, Debug, PartialEq, Eq)]
+#[derive(Clone, Copy)]
 pub struct Reach {
     pub loads: Span,
     pub stores: Span,
@@ -82,7 +82,8 @@ impl State {
 
     fn reach_of_load(&self, thread: &Thread, op: u8, at: u32) -> Reach
         requires { IsOneOf op load_ops }
-        ensures { (rd : ℕ) → IsReach (state_of self.now) thread.now result (plain.load_effect (state_of self.now) thread.now op rd at) }
+        ensures { (rd : ℕ) → IsReach (state_of self.now) thread.now result
+            (plain.load_effect (state_of self.now) thread.now op rd at) }
     {
         let count = access_size(op);
         if is_covered(self.seen_by(thread), u32::from(READ), at, count) {
@@ -97,7 +98,8 @@ impl State {
 
     fn reach_of_store(&self, thread: &Thread, op: u8, at: u32) -> Reach
         requires { IsOneOf op store_ops }
-        ensures { (value : ℕ) → IsReach (state_of self.now) thread.now result (plain.store_effect (state_of self.now) thread.now op at value) }
+        ensures { (value : ℕ) → IsReach (state_of self.now) thread.now result
+            (plain.store_effect (state_of self.now) thread.now op at value) }
     {
         let count = access_size(op);
         if is_covered(self.seen_by(thread), u32::from(WRITE), at, count) {
@@ -142,7 +144,8 @@ impl State {
 impl World {
     /// What a call reaches that isn't refused: only a put and a get reach anything.
     fn reach_of_call(&self, id: ObjId, thread: &Thread, call: Call) -> Reach
-        ensures { IsReach (world_of self.now).now thread.now result (calls.effect_of_call (world_of self.now) id thread.now call) }
+        ensures { IsReach (world_of self.now).now thread.now result
+            (calls.effect_of_call (world_of self.now) id thread.now call) }
     {
         match call {
             Call::Put => self.running.reach_of_put(thread),
@@ -186,7 +189,8 @@ impl World {
     /// What a row's effect reaches.
     fn reach_of_plan(&self, id: ObjId, thread: &Thread, plan: Plan) -> Reach
         requires { IsPlan plan }
-        ensures { IsReach (world_of self.now).now thread.now result (plain.carried_out (world_of self.now) id thread.now plan) }
+        ensures { IsReach (world_of self.now).now thread.now result
+            (plain.carried_out (world_of self.now) id thread.now plan) }
     {
         match plan {
             Plan::Load { op, at, .. } => self.running.reach_of_load(thread, op, at),
@@ -198,7 +202,8 @@ impl World {
 
     /// What the instruction of a word reaches.
     pub(crate) fn reach(&self, id: ObjId, thread: &Thread, word: u32) -> Reach
-        ensures { IsReach (world_of self.now).now thread.now result (plain.obeyed (world_of self.now) id thread.now (decoded word)) }
+        ensures { IsReach (world_of self.now).now thread.now result
+            (plain.obeyed (world_of self.now) id thread.now (decoded word)) }
     {
         match decode(word) {
             Some(instr) => self.reach_of_plan(id, thread, plan(instr, &regs_of(thread))),
@@ -209,7 +214,8 @@ impl World {
 
 /// Whether an entry on a channel, if there is one, is stored to a page.
 fn is_ring_page(channel: Option<u8>, page: PageNo) -> bool
-    ensures { (output : Option Output) → option_map (λ o. o.channel) output ≡ channel → result ≡ puts_to_page output page }
+    ensures { (output : Option Output) → option_map (λ o. o.channel) output ≡ channel → result
+        ≡ puts_to_page output page }
 {
     match channel {
         Some(channel) => PageNo::from(channel) == page,
@@ -221,7 +227,8 @@ fn is_ring_page(channel: Option<u8>, page: PageNo) -> bool
 impl World {
     /// Whether what an instruction reaches has it store to a page.
     fn stores_to(&self, thread: &Thread, reach: &Reach, page: PageNo) -> bool
-        ensures { (e : Effect) → IsReach (world_of self.now).now thread.now reach.now e → result ≡ ticks.stores_to (world_of self.now).now e page }
+        ensures { (e : Effect) → IsReach (world_of self.now).now thread.now reach.now e → result
+            ≡ ticks.stores_to (world_of self.now).now e page }
     {
         let regions = self.running.seen_by(thread);
         self.running
@@ -231,7 +238,8 @@ impl World {
 
     /// Whether the next instruction of a thread stores to a page.
     fn stores_by(&self, id: ObjId, page: PageNo) -> bool
-        ensures { result ≡ ticks.stores_to (world_of self.now).now (plain.instruction (world_of self.now) id (thread_at (world_of self.now).now id)) page }
+        ensures { result ≡ ticks.stores_to (world_of self.now).now
+            (plain.instruction (world_of self.now) id (thread_at (world_of self.now).now id)) page }
     {
         let thread = self.running.thread_at(id);
         match self.running.word_at_pc(&thread) {
@@ -242,7 +250,8 @@ impl World {
 
     /// Whether the next instruction of a thread is fetched from a page or loads from it.
     fn loads_by(&self, id: ObjId, page: PageNo) -> bool
-        ensures { result ≡ ticks.loads_from (world_of self.now).now (plain.instruction (world_of self.now) id (thread_at (world_of self.now).now id)) page }
+        ensures { result ≡ ticks.loads_from (world_of self.now).now
+            (plain.instruction (world_of self.now) id (thread_at (world_of self.now).now id)) page }
     {
         let thread = self.running.thread_at(id);
         let Some(word) = self.running.word_at_pc(&thread) else {

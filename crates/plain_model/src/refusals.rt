@@ -12,20 +12,14 @@ use crate::calls::{Call, Need, Refusal};
 use crate::memory::is_covered;
 use crate::object::{Object, includes, is_kind, pages_of, regions_of, slots_of};
 use crate::objects::{Capability, Region};
+use crate::page::PAGE;
 use crate::slow_calls::{REFUSAL_ORDER, arg, needs};
-use crate::slow_effect::INSTRUCTION_BYTES;
 use crate::state::{PAGE_END, State};
 use crate::world::World;
 use sls_base::{
-    ENTRY_BYTES, GROUP_SLOTS, MEMORY_PAGES, ObjId, PAGE_BYTES, READ, REGION_RIGHTS, SPACE_REGIONS,
-    Thread, WRITE,
+    ADDRESSES, ENTRY_BYTES, GROUP_SLOTS, INSTRUCTION_BYTES, MEMORY_PAGES, ObjId, PAGE_BYTES, READ,
+    REGION_RIGHTS, SPACE_REGIONS, Thread, WRITE,
 };
-
-/// The bytes of a page.
-const PAGE: u64 = PAGE_BYTES as u64;
-
-/// The addresses of 32 bits.
-const ADDRESSES: u64 = 1 << 32;
 
 /// The bytes that an entry may have.
 pub const ENTRY: u32 = ENTRY_BYTES as u32;

@@ -8,11 +8,8 @@ use crate::calls::ANSWER;
 use crate::effect::{ByteStore, Goes, Output, Place};
 use crate::object::Object;
 use rv_core::Regs;
-use sls_base::{ObjId, Thread, ThreadState};
+use sls_base::{INSTRUCTION_BYTES, ObjId, Thread, ThreadState};
 use std::alloc::Global;
-
-/// The bytes of an instruction.
-pub const INSTRUCTION_BYTES: u32 = 4;
 
 /// An object that gets another value, or is made.
 #[derive(Drop)]

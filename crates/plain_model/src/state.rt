@@ -58,7 +58,8 @@ impl State {
 
     /// A copy of the state, with the inputs from a place on.
     pub fn copy(&self, alloc: Global, first_input: usize) -> Result<State, AllocError>
-        ensures { IfOk result (λ s. state_of s ≡ record (state_of self.now) { inputs = drop first_input (state_of self.now).inputs }) }
+        ensures { IfOk result (λ s. state_of s
+            ≡ record (state_of self.now) { inputs = drop first_input (state_of self.now).inputs }) }
     {
         Ok(State {
             objects: copies_of_objects(alloc, self.objects.as_slice())?,
@@ -117,7 +118,8 @@ impl State {
     pub fn value_of(&self, regions: &[Region], right: u32, at: u64, count: u32) -> u32
         requires count { count ≤ 4 }
         requires at { at + count ≤ 2 ^ 33 }
-        ensures value { result ≡ instructions.value_at (state_of self.now) (memory.places_of regions.now right at count) }
+        ensures value { result ≡ instructions.value_at (state_of self.now)
+            (memory.places_of regions.now right at count) }
         ensures small { result < 256 ^ count }
     {
         if count == 0 {

@@ -72,7 +72,8 @@ pub fn store_all(objects: &mut [Option<Object>], stores: &[ByteStore])
 pub fn make_change(objects: &mut [Option<Object>], change: Change)
     requires { length objects.old ≡ NUMBERS }
     ensures sized { length objects.new ≡ NUMBERS }
-    ensures changed { objects_of objects.new ≡ with_object (objects_of objects.old) change.id (object_of change.object) }
+    ensures changed { objects_of objects.new
+        ≡ with_object (objects_of objects.old) change.id (object_of change.object) }
 {
     let Change { id, object } = change;
     objects[usize::from(id)] = Some(object);

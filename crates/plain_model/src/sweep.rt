@@ -89,21 +89,24 @@ impl Reached {
 
     /// Whether an object that is reached leads to another.
     fn any_leads_to(&self, state: &State, id: ObjId) -> bool
-        ensures { result ≡ list_any (λ from. has self.now from && plain.leads_to ((state_of state.now).objects from) id) every_object }
+        ensures { result ≡ list_any
+            (λ from. has self.now from && plain.leads_to ((state_of state.now).objects from) id) every_object }
     {
         (0..OBJECT_END).any(|from| self.has(from) && leads_to(state.object(from), id))
     }
 
     /// Whether an object is reached, or one edge away from one that is.
     fn is_next(&self, state: &State, id: ObjId) -> bool
-        ensures { (n : ℕ) → TellsWithin self.now (state_of state.now) n → result ≡ is_within (state_of state.now) (n + 1) id }
+        ensures { (n : ℕ) → TellsWithin self.now (state_of state.now) n → result
+            ≡ is_within (state_of state.now) (n + 1) id }
     {
         self.has(id) || self.any_leads_to(state, id)
     }
 
     /// With the objects that are one edge further away.
     fn next(&self, state: &State) -> Reached
-        ensures { (n : ℕ) → TellsWithin self.now (state_of state.now) n → TellsWithin result (state_of state.now) (n + 1) }
+        ensures { (n : ℕ) → TellsWithin self.now (state_of state.now) n
+            → TellsWithin result (state_of state.now) (n + 1) }
     {
         let mut is = [false; NUMBERS];
         for number in 0..NUMBERS {
@@ -122,7 +125,8 @@ impl Reached {
     }
 
     fn kept(&self, alloc: Global, ids: &[ObjId]) -> Result<Vec<ObjId>, AllocError>
-        ensures { IfOk result (λ kept. (s : states.State) → TellsReached self.now s → kept.items ≡ filter (is_reached s) ids.now) }
+        ensures { IfOk result (λ kept. (s : states.State) → TellsReached self.now s → kept.items
+            ≡ filter (is_reached s) ids.now) }
     {
         let mut kept = Vec::new(alloc);
         for id in ids {
@@ -145,7 +149,8 @@ impl Reached {
 
     /// An object without the threads that have vanished.
     fn settled(&self, alloc: Global, object: &Object) -> Result<Object, AllocError>
-        ensures { IfOk result (λ other. (s : states.State) → TellsReached self.now s → object_of other ≡ plain.settled s (object_of object.now)) }
+        ensures { IfOk result (λ other. (s : states.State) → TellsReached self.now s → object_of other
+            ≡ plain.settled s (object_of object.now)) }
     {
         Ok(match object {
             Object::Thread(thread) => Object::Thread(Thread {
@@ -182,7 +187,8 @@ impl Reached {
         alloc: Global,
         cores: &[Option<Occupant>],
     ) -> Result<Vec<Option<Occupant>>, AllocError>
-        ensures { IfOk result (λ kept. (s : states.State) → TellsReached self.now s → kept.items ≡ map (plain.kept_on_core s) cores.now) }
+        ensures { IfOk result (λ kept. (s : states.State) → TellsReached self.now s → kept.items
+            ≡ map (plain.kept_on_core s) cores.now) }
     {
         let mut kept = Vec::new(alloc);
         for core in cores {
@@ -198,14 +204,16 @@ impl Reached {
     }
 
     fn loses_a_core(&self, cores: &[Option<Occupant>]) -> bool
-        ensures { (s : states.State) → TellsReached self.now s → result ≡ list_any (λ core. plain.is_lost s (plain.thread_on core)) cores.now }
+        ensures { (s : states.State) → TellsReached self.now s → result
+            ≡ list_any (λ core. plain.is_lost s (plain.thread_on core)) cores.now }
     {
         cores.iter().any(|core| self.is_lost(thread_on(core)))
     }
 
     #[tactic(auto, unfolding(crate::specs::Slow::state_of))]
     fn is_settled_otherwise(&self, state: &State, object: &Object) -> bool
-        ensures { TellsReached self.now (state_of state.now) → result ≡ plain.is_settled_otherwise (state_of state.now) (Some (object_of object.now)) }
+        ensures { TellsReached self.now (state_of state.now) → result
+            ≡ plain.is_settled_otherwise (state_of state.now) (Some (object_of object.now)) }
     {
         match object {
             Object::Thread(thread) => self.is_lost(waits_for(thread.state)),
@@ -258,7 +266,8 @@ impl State {
     ) -> Result<Vec<Option<Object>>, AllocError>
         requires { TellsReached reached.now (state_of self.now) }
         ensures sized { IfOk result (λ objects. length objects.items ≡ NUMBERS) }
-        ensures objects { IfOk result (λ objects. objects_of objects.items ≡ (plain.swept (state_of self.now)).objects) }
+        ensures objects { IfOk result
+            (λ objects. objects_of objects.items ≡ (plain.swept (state_of self.now)).objects) }
     {
         let mut objects = Vec::new(alloc);
         for number in 0..NUMBERS {
@@ -283,7 +292,8 @@ impl State {
 
     /// Whether the sweep makes an object another, or takes it away.
     pub(crate) fn is_swept_otherwise(&self, reached: &Reached, id: ObjId) -> bool
-        ensures { TellsReached reached.now (state_of self.now) → result ≡ plain.is_swept_otherwise (state_of self.now) id }
+        ensures { TellsReached reached.now (state_of self.now) → result
+            ≡ plain.is_swept_otherwise (state_of self.now) id }
     {
         match self.object(id) {
             Some(object) => !reached.has(id) || reached.is_settled_otherwise(self, object),

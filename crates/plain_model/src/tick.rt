@@ -113,7 +113,8 @@ fn change_objects(
     requires in_pages { All StoresInPage stores.now }
     ensures sized { length objects.new ≡ NUMBERS }
     ensures changed { objects_of objects.new
-        ≡ with_object (plain.with_changes (with_stores (objects_of objects.old) stores.now) (map change_of changes.items)) id (plain_objects.Thread thread) }
+        ≡ with_object (plain.with_changes (with_stores (objects_of objects.old) stores.now)
+        (map change_of changes.items)) id (plain_objects.Thread thread) }
 {
     store_all(objects, stores);
     make_changes(objects, changes);
@@ -170,7 +171,8 @@ impl State {
     ) -> Result<State, AllocError>
         requires core { core < length self.now.cores.items }
         requires in_pages { StoresInPages effect }
-        ensures { IfOk result (λ s. state_of s ≡ plain.state_of_effect (state_of self.now) core (chosen_of chosen) (effect_of effect)) }
+        ensures { IfOk result (λ s. state_of s
+            ≡ plain.state_of_effect (state_of self.now) core (chosen_of chosen) (effect_of effect)) }
     {
         let Chosen { occupant, queue } = chosen;
         let id = occupant.thread;

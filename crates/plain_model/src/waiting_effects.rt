@@ -1,6 +1,7 @@
 //! What the calls on notifications and connections do that aren't refused.
 
-ghost use Rattle.std.specs.Prelude.{◌≡◌, IfOk, [], false, map};
+ghost use Rattle.std.specs.Prelude.{◌≡◌, IfOk, [], ◌∷◌, Some, false, map};
+ghost use Rattle.plain_model.specs.Objects.{Notification};
 ghost use Rattle.plain_model.specs.Calls as calls;
 ghost use Rattle.plain_model.specs.CallRefusals as refusals;
 ghost use Rattle.plain_model.specs.CallEffects as plain;
@@ -8,7 +9,7 @@ ghost use Rattle.plain_model.specs.Slow.{object_of, change_of, state_of, effect_
 
 use crate::calls::ANSWER;
 use crate::object::Object;
-use crate::object_effects::change;
+use crate::object_effects::{answers_with, change};
 use crate::slow_calls::arg;
 use crate::slow_effect::{Change, Effect, next_pc};
 use crate::state::State;
@@ -49,6 +50,43 @@ fn is_serving(state: ThreadState, id: ObjId) -> bool
     }
 }
 
+/// One is taken from the count of a notification, which leaves this.
+#[tactic(auto, unfolding(crate::specs::Slow::effect_of))]
+fn takes_one(
+    alloc: Global,
+    thread: &Thread,
+    id: ObjId,
+    left: u32,
+    waiters: &[ObjId],
+) -> Result<Effect, AllocError>
+    ensures { IfOk result (λ e. (effect_of e
+        ≡ plain.answers_with thread.now 0 (plain.change id (Notification left waiters.now) ∷ [])) × StoresInPages e) }
+{
+    let note = Object::Notification(left, Vec::from_slice(alloc, waiters)?);
+    answers_with(alloc, thread, 0, change(id, note))
+}
+
+/// A thread joins those that wait on a notification whose count is 0.
+#[tactic(auto, unfolding(crate::specs::Slow::effect_of))]
+fn joins(
+    alloc: Global,
+    thread: &Thread,
+    id: ObjId,
+    waiters: &[ObjId],
+    me: ObjId,
+) -> Result<Effect, AllocError>
+    ensures { IfOk result (λ e.
+        (effect_of e ≡ plain.wait_effect me thread.now id (Some (Notification 0 waiters.now))) × StoresInPages e) }
+{
+    let mut all = Vec::from_slice(alloc, waiters)?;
+    all.push(me)?;
+    let mut effect = Effect::waits(alloc, thread, ThreadState::Waiting(id));
+    effect
+        .changes
+        .push(change(id, Object::Notification(0, all)))?;
+    Ok(effect)
+}
+
 #[tactic(auto, unfolding(crate::specs::Slow::state_of, crate::specs::Slow::effect_of))]
 impl State {
     /// A thread that waited, with its answer.
@@ -58,34 +96,46 @@ impl State {
         change(id, thread_with(&self.thread_at(id), ThreadState::Ready, x))
     }
 
+    /// The first that waits on a notification becomes Ready, and the others wait on.
+    fn wakes_first(
+        &self,
+        alloc: Global,
+        thread: &Thread,
+        id: ObjId,
+        count: u32,
+        waiter: ObjId,
+        rest: &[ObjId],
+    ) -> Result<Effect, AllocError>
+        ensures { IfOk result (λ e. (effect_of e
+            ≡ plain.signal_effect (state_of self.now) thread.now id (Some (Notification count (waiter ∷ rest.now))))
+            × StoresInPages e) }
+    {
+        let note = Object::Notification(count, Vec::from_slice(alloc, rest)?);
+        let mut effect = answers_with(alloc, thread, 0, change(id, note))?;
+        let mut x = self.thread_at(waiter).x;
+        x[ANSWER] = 0;
+        effect.changes.push(self.ready_with(waiter, x))?;
+        effect.wakes.push(waiter)?;
+        Ok(effect)
+    }
+
     pub(crate) fn signal_effect(&self, alloc: Global, thread: &Thread) -> Result<Effect, AllocError>
         requires { refusals.is_full_count (calls.named (state_of self.now) thread.now 0) ≡ false }
-        ensures { IfOk result (λ e. (effect_of e ≡ plain.signal_effect (state_of self.now) thread.now (calls.id_named (state_of self.now) thread.now 0) (calls.named (state_of self.now) thread.now 0)) × StoresInPages e) }
+        ensures { IfOk result (λ e. (effect_of e ≡ plain.signal_effect (state_of self.now) thread.now
+            (calls.id_named (state_of self.now) thread.now 0) (calls.named (state_of self.now) thread.now 0))
+            × StoresInPages e) }
     {
-        let mut effect = Effect::answers(alloc, thread, 0);
         let id = self.id_named(thread, 0);
         let Some(Object::Notification(count, waiters)) = self.named(thread, 0) else {
-            return Ok(effect);
+            return Ok(Effect::answers(alloc, thread, 0));
         };
         match waiters.as_slice() {
             [] => {
-                let count = count.wrapping_add(1);
-                effect
-                    .changes
-                    .push(change(id, Object::Notification(count, Vec::new(alloc))))?;
+                let note = Object::Notification(count.wrapping_add(1), Vec::new(alloc));
+                answers_with(alloc, thread, 0, change(id, note))
             }
-            [waiter, rest @ ..] => {
-                let rest = Vec::from_slice(alloc, rest)?;
-                effect
-                    .changes
-                    .push(change(id, Object::Notification(*count, rest)))?;
-                let mut x = self.thread_at(*waiter).x;
-                x[ANSWER] = 0;
-                effect.changes.push(self.ready_with(*waiter, x))?;
-                effect.wakes.push(*waiter)?;
-            }
+            [waiter, rest @ ..] => self.wakes_first(alloc, thread, id, *count, *waiter, rest),
         }
-        Ok(effect)
     }
 
     pub(crate) fn wait_effect(
@@ -94,26 +144,18 @@ impl State {
         me: ObjId,
         thread: &Thread,
     ) -> Result<Effect, AllocError>
-        ensures { IfOk result (λ e. (effect_of e ≡ plain.wait_effect me thread.now (calls.id_named (state_of self.now) thread.now 0) (calls.named (state_of self.now) thread.now 0)) × StoresInPages e) }
+        ensures { IfOk result (λ e. (effect_of e ≡ plain.wait_effect me thread.now
+            (calls.id_named (state_of self.now) thread.now 0) (calls.named (state_of self.now) thread.now 0))
+            × StoresInPages e) }
     {
         let id = self.id_named(thread, 0);
         let Some(Object::Notification(count, waiters)) = self.named(thread, 0) else {
             return Ok(Effect::answers(alloc, thread, 0));
         };
-        let mut waiters = Vec::from_slice(alloc, waiters.as_slice())?;
-        if *count == 0 {
-            waiters.push(me)?;
-            let mut effect = Effect::waits(alloc, thread, ThreadState::Waiting(id));
-            effect
-                .changes
-                .push(change(id, Object::Notification(0, waiters)))?;
-            return Ok(effect);
+        match count.checked_sub(1) {
+            Some(left) => takes_one(alloc, thread, id, left, waiters.as_slice()),
+            None => joins(alloc, thread, id, waiters.as_slice(), me),
         }
-        let mut effect = Effect::answers(alloc, thread, 0);
-        effect
-            .changes
-            .push(change(id, Object::Notification(*count - 1, waiters)))?;
-        Ok(effect)
     }
 
     pub(crate) fn call_effect(
@@ -122,7 +164,10 @@ impl State {
         me: ObjId,
         thread: &Thread,
     ) -> Result<Effect, AllocError>
-        ensures { IfOk result (λ e. (effect_of e ≡ plain.call_effect (state_of self.now) me thread.now (calls.id_named (state_of self.now) thread.now 0) (calls.named (state_of self.now) thread.now 0)) × StoresInPages e) }
+        ensures { IfOk result (λ e.
+            (effect_of e ≡ plain.call_effect (state_of self.now) me thread.now
+            (calls.id_named (state_of self.now) thread.now 0) (calls.named (state_of self.now) thread.now 0))
+            × StoresInPages e) }
     {
         let id = self.id_named(thread, 0);
         let Some(Object::Connection(server, client, clients)) = self.named(thread, 0) else {
@@ -154,7 +199,8 @@ impl State {
         thread: &Thread,
         client: Option<ObjId>,
     ) -> Result<(Vec<Change>, Vec<ObjId>), AllocError>
-        ensures changes { IfOk result (λ both. map change_of both.0.items ≡ plain.client_done (state_of self.now) thread.now client) }
+        ensures changes { IfOk result
+            (λ both. map change_of both.0.items ≡ plain.client_done (state_of self.now) thread.now client) }
         ensures wakes { IfOk result (λ both. both.1.items ≡ plain.client_woken client) }
     {
         let mut changes = Vec::new(alloc);
@@ -176,7 +222,8 @@ impl State {
         server: ObjId,
         client: Option<ObjId>,
     ) -> Result<Effect, AllocError>
-        ensures { IfOk result (λ e. (effect_of e ≡ plain.serve_next (state_of self.now) thread.now id server client []) × StoresInPages e) }
+        ensures { IfOk result (λ e.
+            (effect_of e ≡ plain.serve_next (state_of self.now) thread.now id server client []) × StoresInPages e) }
     {
         let mut effect = Effect::waits(alloc, thread, ThreadState::Serving(id));
         let Some(client) = client else {
@@ -190,7 +237,10 @@ impl State {
     }
 
     pub(crate) fn serve_effect(&self, alloc: Global, thread: &Thread) -> Result<Effect, AllocError>
-        ensures { IfOk result (λ e. (effect_of e ≡ plain.serve_effect (state_of self.now) thread.now (calls.id_named (state_of self.now) thread.now 0) (calls.named (state_of self.now) thread.now 0)) × StoresInPages e) }
+        ensures { IfOk result (λ e.
+            (effect_of e ≡ plain.serve_effect (state_of self.now) thread.now
+            (calls.id_named (state_of self.now) thread.now 0) (calls.named (state_of self.now) thread.now 0))
+            × StoresInPages e) }
     {
         let id = self.id_named(thread, 0);
         let Some(Object::Connection(server, client, clients)) = self.named(thread, 0) else {

@@ -44,7 +44,7 @@ pub struct World {
 }
 
 /// Whether a list has a number.
-fn has_number(numbers: &[u16], number: u16) -> bool
+pub(crate) fn has_number(numbers: &[u16], number: u16) -> bool
     ensures { result ≡ is_in numbers.now number }
 {
     numbers.iter().any(|other| *other == number)
@@ -62,7 +62,8 @@ fn with_number(numbers: &mut Vec<u16>, number: u16) -> Result<(), AllocError>
 
 /// The list with the numbers of the objects that are changed.
 fn with_changed(numbers: &mut Vec<u16>, changes: &[Change]) -> Result<(), AllocError>
-    ensures { OnOk result ((n : ℕ) → is_in numbers.new.items n ≡ (is_in numbers.old.items n || list_any (λ change. change.id == n) changes.now)) }
+    ensures { OnOk result ((n : ℕ) → is_in numbers.new.items n
+        ≡ (is_in numbers.old.items n || list_any (λ change. change.id == n) changes.now)) }
 {
     for change in changes {
         with_number(numbers, u16::from(change.id))?;
@@ -72,7 +73,8 @@ fn with_changed(numbers: &mut Vec<u16>, changes: &[Change]) -> Result<(), AllocE
 
 /// The list with the numbers of the objects that have a page that is stored to.
 fn with_written(numbers: &mut Vec<u16>, stores: &[ByteStore]) -> Result<(), AllocError>
-    ensures { OnOk result ((n : ℕ) → is_in numbers.new.items n ≡ (is_in numbers.old.items n || list_any (λ store. store.place.memory == n) stores.now)) }
+    ensures { OnOk result ((n : ℕ) → is_in numbers.new.items n
+        ≡ (is_in numbers.old.items n || list_any (λ store. store.place.memory == n) stores.now)) }
 {
     for store in stores {
         with_number(numbers, u16::from(store.place.memory))?;
@@ -82,7 +84,8 @@ fn with_written(numbers: &mut Vec<u16>, stores: &[ByteStore]) -> Result<(), Allo
 
 /// The list with the page of an entry's channel, if there is an entry.
 fn with_page_put(numbers: &mut Vec<u16>, output: &Option<Output>) -> Result<(), AllocError>
-    ensures { OnOk result ((n : ℕ) → is_in numbers.new.items n ≡ (is_in numbers.old.items n || puts_to_page output.now n)) }
+    ensures { OnOk result ((n : ℕ) → is_in numbers.new.items n
+        ≡ (is_in numbers.old.items n || puts_to_page output.now n)) }
 {
     if let Some(output) = output {
         with_number(numbers, PageNo::from(output.channel))?;
@@ -92,7 +95,8 @@ fn with_page_put(numbers: &mut Vec<u16>, output: &Option<Output>) -> Result<(), 
 
 /// The list with the ring of an entry's channel, if there is an entry.
 fn with_ring_put(numbers: &mut Vec<u16>, output: &Option<Output>) -> Result<(), AllocError>
-    ensures { OnOk result ((n : ℕ) → is_in numbers.new.items n ≡ (is_in numbers.old.items n || puts_to_ring output.now n)) }
+    ensures { OnOk result ((n : ℕ) → is_in numbers.new.items n
+        ≡ (is_in numbers.old.items n || puts_to_ring output.now n)) }
 {
     if let Some(output) = output {
         with_number(
@@ -108,7 +112,8 @@ impl State {
     /// The list with the numbers of the pages that stores are to.
     fn with_stored(&self, numbers: &mut Vec<u16>, stores: &[ByteStore]) -> Result<(), AllocError>
         ensures { OnOk result ((n : ℕ) → is_in numbers.new.items n
-            ≡ (is_in numbers.old.items n || list_any (λ store. (page_at (state_of self.now).objects store.place).number == n) stores.now)) }
+            ≡ (is_in numbers.old.items n
+            || list_any (λ store. (page_at (state_of self.now).objects store.place).number == n) stores.now)) }
     {
         for store in stores {
             with_number(numbers, self.page_number_at(store.place))?;
@@ -130,6 +135,20 @@ fn entry_at(outputs: &[Output], channel: u8, number: u64) -> Option<ArrayVec<u8,
 
 #[tactic(auto, unfolding(crate::specs::SlowWorld::world_of, crate::specs::Slow::state_of, crate::specs::Slow::effect_of))]
 impl World {
+    /// The running state.
+    pub fn running(&self) -> &State
+        ensures { state_of result.now ≡ (world_of self.now).now }
+    {
+        &self.running
+    }
+
+    /// The saved copy.
+    pub fn saved(&self) -> &State
+        ensures { state_of result.now ≡ (world_of self.now).saved }
+    {
+        &self.saved
+    }
+
     /// How many entries of a channel the device has accepted.
     pub fn accepted(&self, channel: u8) -> u64
         ensures { result ≡ accepted_count (world_of self.now) channel }
@@ -263,7 +282,8 @@ impl World {
     ) -> Result<(), AllocError>
         requires core { core < length (world_of self.old).now.cores }
         requires in_pages { StoresInPages effect }
-        ensures world { OnOk result (world_of self.new ≡ world_of_effect (world_of self.old) core (chosen_of chosen) (effect_of effect)) }
+        ensures world { OnOk result
+            (world_of self.new ≡ world_of_effect (world_of self.old) core (chosen_of chosen) (effect_of effect)) }
         ensures refused { OnErr result (self.new ≡ self.old) }
     {
         let stored = self.stored_after(alloc, &effect)?;
@@ -275,7 +295,8 @@ impl World {
     }
 
     fn stored_after(&self, alloc: Global, effect: &Effect) -> Result<Vec<PageNo>, AllocError>
-        ensures { IfOk result (λ pages. (page : ℕ) → is_in pages.items page ≡ ((world_of self.now).stored page || stores_to (state_of self.now.running) (effect_of effect.now) page)) }
+        ensures { IfOk result (λ pages. (page : ℕ) → is_in pages.items page
+            ≡ ((world_of self.now).stored page || stores_to (state_of self.now.running) (effect_of effect.now) page)) }
     {
         let mut stored = Vec::from_slice(alloc, self.stored.as_slice())?;
         self.running
@@ -290,7 +311,9 @@ impl World {
         thread: ObjId,
         effect: &Effect,
     ) -> Result<Vec<u16>, AllocError>
-        ensures { IfOk result (λ ids. (i : ℕ) → is_in ids.items i ≡ ((world_of self.now).changed i || ((i == SCHEDULER) || ((i == thread) || writes (effect_of effect.now) i)))) }
+        ensures { IfOk result (λ ids. (i : ℕ) → is_in ids.items i
+            ≡ ((world_of self.now).changed i
+            || ((i == SCHEDULER) || ((i == thread) || writes (effect_of effect.now) i)))) }
     {
         let mut changed = Vec::from_slice(alloc, self.changed.as_slice())?;
         with_number(&mut changed, u16::from(SCHEDULER))?;

@@ -3,7 +3,7 @@ use Rattle.std.specs.Prelude.{filter, map}
 use Rattle.plain_model.specs.Slow.{state_of, entries_of, inputs_of}
 use Rattle.plain_model.specs.Sweep as plain
 use Rattle.plain_model.specs.Sweep.{is_reached, kept_on_core}
-use Rattle.plain_model.proofs.Sweeps.{state_is}
+use Rattle.plain_model.proofs.SlowStates.{state_is}
 use Rattle.plain_model.proofs.state.State.swept.Goals as goal
 
 pub returns : goal.returns

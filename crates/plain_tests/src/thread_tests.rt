@@ -1,8 +1,7 @@
 //! Programs of several threads on the plain machine, and what becomes of each.
 
-use crate::object::Object;
 use crate::test_programs::{first_world, image_of, refused, tick, ticks, x10};
-use crate::{Place, Reply, World};
+use plain_model::{Object, Place, Reply, World};
 use sls_base::{Image, LOST_OBJECT, ObjId, Program, RegionSpec, ThreadState};
 use std::test::Fail;
 
@@ -66,7 +65,7 @@ fn signals_wake_the_first_that_waits(rt: HostRuntime) -> Result<(), Fail> {
     }
     ticks(&rt, alloc, &mut world, 4 + 2)?;
     assert!(rt; world.thread(13).is_none());
-    match world.running.object(14) {
+    match world.running().object(14) {
         Some(Object::Notification(count, waiters)) => {
             assert!(rt;
                 *count == 0 && waiters.is_empty(),
@@ -110,7 +109,7 @@ fn who_is_woken_stands_before_who_woke_it(rt: HostRuntime) -> Result<(), Fail> {
     ticks(&rt, alloc, &mut world, 5 + 4)?;
     assert!(rt; is_in(&world, 11, ThreadState::Waiting(12)));
     ticks(&rt, alloc, &mut world, 16)?;
-    assert!(rt; world.running.queue.as_slice() == [11, 10].as_slice());
+    assert!(rt; world.running().queue.as_slice() == [11, 10].as_slice());
     Ok(())
 }
 
@@ -156,10 +155,10 @@ fn a_server_that_waits_serves_a_client_at_once(rt: HostRuntime) -> Result<(), Fa
     ticks(&rt, alloc, &mut world, 5)?;
     assert!(rt; is_in(&world, 10, ThreadState::Ready) && x10(&world, 10) == 0);
     assert!(rt; is_in(&world, 11, ThreadState::Served(12)));
-    let server = world.running.thread_at(10);
+    let server = world.running().thread_at(10);
     assert!(rt; server.x[11] == 7 && server.x[12] == 8);
     ticks(&rt, alloc, &mut world, 5)?;
-    let client = world.running.thread_at(11);
+    let client = world.running().thread_at(11);
     assert!(rt; client.state == ThreadState::Ready && client.x[10] == 0);
     assert!(rt; client.x[11] == 5 && client.x[12] == 6);
     assert!(rt; is_in(&world, 10, ThreadState::Serving(12)));
@@ -198,7 +197,7 @@ fn a_client_that_vanished_is_served_no_more(rt: HostRuntime) -> Result<(), Fail>
     assert!(rt; is_in(&world, 11, ThreadState::Served(12)));
     ticks(&rt, alloc, &mut world, 4 + 2)?;
     assert!(rt; world.thread(11).is_none());
-    match world.running.object(12) {
+    match world.running().object(12) {
         Some(Object::Connection(server, client, clients)) => {
             assert!(rt; *server == 10 && client.is_none() && clients.is_empty());
         }
@@ -237,7 +236,7 @@ fn who_waits_for_what_vanished_stops(rt: HostRuntime) -> Result<(), Fail> {
     assert!(rt; is_in(&world, 11, ThreadState::Waiting(12)));
     ticks(&rt, alloc, &mut world, 2)?;
     assert!(rt; is_in(&world, 11, ThreadState::Stopped(LOST_OBJECT)));
-    assert!(rt; world.running.object(12).is_none());
+    assert!(rt; world.running().object(12).is_none());
     Ok(())
 }
 
@@ -305,15 +304,15 @@ fn programs_have_their_numbers_and_pages_in_order(rt: HostRuntime) -> Result<(),
         })?;
     }
     let world = first_world(&rt, alloc, &Image { programs }, 1)?;
-    assert!(rt; world.running.queue.as_slice() == [11, 12, 17, 18].as_slice());
+    assert!(rt; world.running().queue.as_slice() == [11, 12, 17, 18].as_slice());
     for (memory, page, number) in [(9, 0, 4), (9, 1, 5), (10, 0, 6), (15, 1, 8), (16, 0, 9)] {
         let place = Place {
             memory,
             page,
             offset: 4000,
         };
-        assert!(rt; world.running.page_number_at(place) == number);
-        assert!(rt; world.running.byte_at(place) == 9);
+        assert!(rt; world.running().page_number_at(place) == number);
+        assert!(rt; world.running().byte_at(place) == 9);
     }
     for (memory, page, offset, byte) in [(15, 1, 4001, 0), (15, 0, 4001, 9), (16, 0, 4001, 0)] {
         let place = Place {
@@ -321,7 +320,7 @@ fn programs_have_their_numbers_and_pages_in_order(rt: HostRuntime) -> Result<(),
             page,
             offset,
         };
-        assert!(rt; world.running.byte_at(place) == byte);
+        assert!(rt; world.running().byte_at(place) == byte);
     }
     assert!(rt; world.has_page(9) && !world.has_page(10));
     Ok(())

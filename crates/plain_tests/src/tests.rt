@@ -1,13 +1,12 @@
 //! Programs on the plain machine, with answers worked out by hand.
 
-use crate::object::Object;
 use crate::test_programs::{
     CAP_COPY, CAP_DROP, CHECKPOINT, CONN_CALL, CONN_NEW, GET, GROUP_NEW, MAP, MEM_NEW, NOTE_NEW,
     PUT, Row, SERVE, SIGNAL, SPACE_NEW, THREAD_NEW, UNMAP, WAIT, YIELD, answers, compare, refused,
     step, world_of_calls,
 };
-use crate::{Label, Place, Reply};
 use arrayvec::ArrayVec;
+use plain_model::{Label, Object, Place, Reply};
 use sls_base::ThreadState;
 use std::test::Fail;
 
@@ -32,7 +31,7 @@ fn memory_objects_take_the_least_pages(rt: HostRuntime) -> Result<(), Fail> {
             (MEM_NEW, &[1], 10),
         ],
     )?;
-    match world.running.object(11) {
+    match world.running().object(11) {
         Some(Object::Memory(pages)) => {
             assert!(rt;
                 pages.len() == 1 && pages[0].number == 5,
@@ -88,7 +87,7 @@ fn a_number_is_taken_again_after_the_commit(rt: HostRuntime) -> Result<(), Fail>
             (GROUP_NEW, &[], 10),
         ],
     )?;
-    assert!(rt; world.running.object(11).is_some() && world.running.object(12).is_none());
+    assert!(rt; world.running().object(11).is_some() && world.running().object(12).is_none());
     Ok(())
 }
 
@@ -264,7 +263,7 @@ fn a_get_takes_the_first_input_as_far_as_there_is_room(rt: HostRuntime) -> Resul
             offset,
         };
         assert!(rt;
-            world.running.byte_at(place) == byte,
+            world.running().byte_at(place) == byte,
             "the byte at {offset}"
         );
     }
@@ -281,7 +280,7 @@ fn a_new_thread_is_ready_with_its_argument(rt: HostRuntime) -> Result<(), Fail> 
         ),
         None => assert!(rt; false, "there is a new thread"),
     }
-    assert!(rt; world.running.queue.as_slice() == [11].as_slice());
+    assert!(rt; world.running().queue.as_slice() == [11].as_slice());
     Ok(())
 }
 
@@ -301,7 +300,7 @@ fn a_cut_goes_back_to_the_saved_copy(rt: HostRuntime) -> Result<(), Fail> {
     assert!(rt; world.put_count(0) == 2 && world.version() == 1);
     assert!(rt; world.cost() == 8 * (1 + 3) + 64);
     step(&rt, alloc, &mut world, Label::Cut)?;
-    assert!(rt; world.put_count(0) == 1 && world.running.inputs.is_empty());
+    assert!(rt; world.put_count(0) == 1 && world.running().inputs.is_empty());
     assert!(rt; world.cost() == 64 && world.version() == 1);
     assert!(rt; world.touches(0, 4) && !world.touches(0, 0));
     assert!(rt; !world.must_store(0, 4));

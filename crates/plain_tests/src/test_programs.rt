@@ -1,6 +1,6 @@
 //! Programs for the tests, from their source to a world.
 
-use crate::{Label, Reply, World, is_accepted};
+use plain_model::{Label, Reply, World, is_accepted};
 use rv_asm::assemble;
 use sls_base::{Image, ObjId, PAGE_BYTES, Program, RegionSpec};
 use std::alloc::Global;

@@ -1,5 +1,0 @@
-use Rattle.plain_model.proofs.Parts.{released_played}
-use Rattle.plain_model.proofs.laws.released_grows.Goals as goal
-
-pub returns : goal.returns
-returns c = released_played
