@@ -1,0 +1,9 @@
+use Rattle.plain_laws.proofs.Changes.{tick_changes}
+use Rattle.plain_laws.proofs.Pages.{tick_keeps_pages}
+use Rattle.plain_laws.proofs.ticks.tick_changes_what_it_names.Goals as goal
+
+pub returns-clause-only : goal.returns-clause-only
+returns-clause-only c = tick_changes
+
+pub returns-clause-pages : goal.returns-clause-pages
+returns-clause-pages c = λ w core chosen placed chose. tick_keeps_pages w core chosen placed chose

@@ -1,0 +1,9 @@
+pub mod Plays
+pub mod Places
+pub mod Sound
+pub mod Fixed
+pub mod Bounds
+pub mod Kept
+pub mod Ticks
+pub mod Laws
+pub mod OnePage

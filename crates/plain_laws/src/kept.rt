@@ -1,0 +1,30 @@
+//! What of a world is as it was saved.
+
+ghost use Rattle.std.specs.Prelude.{ℕ};
+ghost use Rattle.sls_base.specs.declared.image.Image.{Image};
+ghost use Rattle.plain_model.specs.declared.label.Label.{Label};
+ghost use Rattle.plain_model.specs.Worlds.{World};
+ghost use Rattle.plain_model.specs.Play.{after};
+ghost use Rattle.plain_model.specs.Initial.{IsAccepted, first_world};
+ghost use Rattle.plain_laws.specs.Plays.{Always};
+ghost use Rattle.plain_laws.specs.Places.{IsPlaced};
+ghost use Rattle.plain_laws.specs.Sound.{HaveForms, NameWhatIs};
+ghost use Rattle.plain_laws.specs.Laws.{AreInRange};
+ghost use Rattle.plain_laws.specs.Kept.{IsSaved, IsTracked};
+
+/// In every world that a machine comes to, the sweep changes nothing of the saved copy, and each object and page of
+/// it is there still.
+pub fn saved_is_swept()
+    ensures first { (image : Image) (cores : ℕ) → IsAccepted image → IsSaved (first_world image cores) }
+    ensures kept { (w : World) (label : Label) → IsPlaced w.now → IsSaved w → IsSaved (after w label) }
+    ensures always { (image : Image) (cores : ℕ) → IsAccepted image → Always IsSaved (first_world image cores) }
+{}
+
+/// In every world that a machine comes to, what wasn't changed or stored to since the last commit or cut is as it was
+/// saved. What was changed has a number that objects have, and what was stored to is a page that there is.
+pub fn changes_are_tracked()
+    ensures first { (image : Image) (cores : ℕ) → IsTracked (first_world image cores) }
+    ensures kept { (w : World) (label : Label) → IsPlaced w.now → AreInRange w.now → HaveForms w.now → NameWhatIs w.now
+        → IsTracked w → IsTracked (after w label) }
+    ensures always { (image : Image) (cores : ℕ) → IsAccepted image → Always IsTracked (first_world image cores) }
+{}
