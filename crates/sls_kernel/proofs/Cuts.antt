@@ -3,7 +3,8 @@ use Rattle.std.proofs.Common.{arith, ◌≡◌, ◌⊎◌, inl, inr, ℕ, ◌∙
 use mathlib.Core.Path.{fun_ext}
 use Rattle.pmem_model.specs.Words.{Word, cuts}
 use Rattle.pmem_model.specs.Memory.{Memory, word_at, count_up}
-use Rattle.sls_kernel.specs.Plain.{World, first, cut, accepted_count, one_more}
+use Rattle.sls_kernel.specs.Plain.{World, first, cut, accepted_count}
+use Rattle.sls_base.specs.Counts.{one_more}
 use Rattle.sls_kernel.specs.Program.{page_bytes}
 use Rattle.sls_kernel.specs.Shows.{Shows, ShowsOff, Stands, IsUnformatted, WordsShow, AtStage, durable_words}
 use Rattle.sls_kernel.specs.Side.{Formatting, mode_of}
@@ -12,7 +13,7 @@ use Rattle.sls_kernel.specs.declared.machine.Machine.{Machine}
 use Rattle.sls_kernel.specs.declared.stage.Stage.{Stage}
 use Rattle.sls_kernel.specs.declared.stage.Stage.TheVariants.{Format, Recover, Up, Checkpoint}
 use Rattle.sls_kernel.proofs.Facts.{counted_cut}
-use Rattle.sls_kernel.proofs.Durable.{durable_stands}
+use Rattle.sls_kernel.proofs.Durable.{durable_stands, formats_at}
 
 unformatted_cut : (durable : ℕ → ℕ) (w : World) → IsUnformatted durable w → IsUnformatted durable (cut w)
 unformatted_cut durable w is = record {
@@ -48,12 +49,6 @@ first_at m w (Checkpoint step) now saved known at is = absurd (omega (arith, kno
 -- a memory without its format word is of a machine that formats
 pub first_cut : (m : Machine) (n : Memory) (w : World) → Shows m w → ((i : ℕ) → word_at n i ≡ cuts (word_at m.nvm) i) → durable_words n 0 ≡ 0 → cut w ≡ first (page_bytes m.program.items) w.commits (one_more w.cuts)
 first_cut m n w s words is = ap cut (first_at m w m.stage s.now_words s.saved_words s.words s.stage (sym (ap (λ (u : Word). u.durable) (words 0)) ∙ is))
-
-formats_at : (m : Machine) (w : World) (stage : Stage) (now saved : ℕ → ℕ → ℕ) → WordsShow stage (word_at m.nvm) w.version now saved → (word_at m.nvm 0).durable ≡ 0 → mode_of stage ≡ Formatting
-formats_at m w (Format step) now saved known is = refl
-formats_at m w (Recover page) now saved known is = absurd (omega (arith, known.format.1))
-formats_at m w Up now saved known is = absurd (omega (arith, known.format.1))
-formats_at m w (Checkpoint step) now saved known is = absurd (omega (arith, known.format.1))
 
 pub formats : (m : Machine) (n : Memory) (w : World) → Shows m w → ((i : ℕ) → word_at n i ≡ cuts (word_at m.nvm) i) → durable_words n 0 ≡ 0 → mode_of m.stage ≡ Formatting
 formats m n w s words is = formats_at m w m.stage s.now_words s.saved_words s.words (sym (ap (λ (u : Word). u.durable) (words 0)) ∙ is)

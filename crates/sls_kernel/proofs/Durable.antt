@@ -1,5 +1,5 @@
 -- What is durable at every moment: the saved state, or the words of a memory that isn't formatted yet.
-use Rattle.std.proofs.Common.{◌≡◌, ◌⊎◌, inl, inr, ℕ, ◌+◌, ◌*◌, ◌/◌, ◌%◌, ◌<◌, ◌≤◌, ◌∙◌, ap, sym, subst, arith, List, [], length, length-append, slice_index_or}
+use Rattle.std.proofs.Common.{◌≡◌, ◌⊎◌, inl, inr, refl, ℕ, ◌+◌, ◌*◌, ◌/◌, ◌%◌, ◌<◌, ◌≤◌, ◌∙◌, ap, sym, subst, arith, List, [], length, length-append, slice_index_or}
 use Rattle.sls_base.specs.declared.limits.TheConstants.{TABLE_WORDS, FRAME_WORDS, LAST_VERSION, RING_ENTRIES}
 use Rattle.pmem_model.specs.Words.{Word}
 use Rattle.pmem_model.specs.Memory.{word_at}
@@ -8,7 +8,8 @@ use Rattle.sls_kernel.specs.Plain.{State, World, accepted_count}
 use Rattle.sls_kernel.specs.Areas.{PartsAre}
 use Rattle.sls_kernel.specs.Words.{Holds, IsPage, IsRing, IsEntry, byte_of, area_place, area_of, part_words}
 use Rattle.sls_kernel.specs.Stages.{format_word}
-use Rattle.sls_kernel.specs.Shows.{Shows, Stands, IsUnformatted, IsPrefixOf, durable_words, area_words, put_count, AreState, WordsShow, AtStage, IsFirst}
+use Rattle.sls_kernel.specs.Shows.{Shows, Stands, StandsFor, IsUnformatted, IsPrefixOf, durable_words, area_words, put_count, AreState, WordsShow, AtStage, IsFirst}
+use Rattle.sls_kernel.specs.Side.{Formatting, mode_of}
 use Rattle.sls_kernel.specs.declared.machine.Machine.{Machine}
 use Rattle.sls_kernel.specs.declared.record.TheConstants.{RECORD_WORDS}
 use Rattle.sls_kernel.specs.declared.stage.Stage.{Stage}
@@ -104,3 +105,18 @@ at_stage m w s (Checkpoint step) known at = inl (standing m w s known.format.1 k
 
 pub durable_stands : (m : Machine) (w : World) → Shows m w → Stands (durable_words m.nvm) (accepted_count w) w.saved ⊎ IsUnformatted (durable_words m.nvm) w
 durable_stands m w s = at_stage m w s m.stage s.words s.stage
+
+-- a machine whose memory has no format word formats
+pub formats_at : (m : Machine) (w : World) (stage : Stage) (now saved : ℕ → ℕ → ℕ) → WordsShow stage (word_at m.nvm) w.version now saved → (word_at m.nvm 0).durable ≡ 0 → mode_of stage ≡ Formatting
+formats_at m w (Format step) now saved known is = refl
+formats_at m w (Recover page) now saved known is = absurd (omega (arith, known.format.1))
+formats_at m w Up now saved known is = absurd (omega (arith, known.format.1))
+formats_at m w (Checkpoint step) now saved known is = absurd (omega (arith, known.format.1))
+
+-- the durable words stand for the saved state of the world's version, but where the machine formats
+pub stands_for : (m : Machine) (w : World) → Shows m w → StandsFor (durable_words m.nvm) w ⊎ (mode_of m.stage ≡ Formatting) × IsUnformatted (durable_words m.nvm) w
+stands_for m w s =
+    elim (durable_stands m w s) [
+      | inl stands ↦ inl (record { version = s.words.version_durable; saved = stands })
+      | inr not_yet ↦ inr (formats_at m w m.stage s.now_words s.saved_words s.words not_yet.unformatted, not_yet)
+    ]

@@ -7,19 +7,22 @@ use Rattle.sls_kernel.specs.Words.{frame_place, running_place, area_place, part_
 use Rattle.sls_kernel.specs.declared.thread.RunThread.{RunThread}
 use Rattle.sls_kernel.specs.declared.area.TheConstants.{FIRST_AREA, AREA_FRAMES, RECORD_PART}
 use Rattle.sls_kernel.specs.declared.record.TheConstants.{RECORD_WORDS}
-use Rattle.sls_kernel.specs.declared.stage.TheConstants.{PAGES, PARTS}
+use Rattle.sls_kernel.specs.declared.stage.TheConstants.{STATE_PAGES, PARTS}
 
 -- these words stand in each part, known as the part's kind says
 abbrev pub PartsAre : (ℕ → Kind) → (ℕ → Word) → (ℕ → ℕ → ℕ) → (ℕ → ℕ → ℕ) → Type 0
-PartsAre kind f place words = (part i : ℕ) → part < PARTS → i < part_words part → WordIs 0 (kind part) (f (place part i)) (words part i)
+PartsAre kind f place words =
+    (part i : ℕ) → part < PARTS → i < part_words part → WordIs 0 (kind part) (f (place part i)) (words part i)
 
 -- a place that is in no part of an area
 abbrev pub IsOffArea : ℕ → ℕ → Type 0
-IsOffArea area i = (i < frame_place (FIRST_AREA + AREA_FRAMES * area)) ⊎ (frame_place (FIRST_AREA + AREA_FRAMES * area + PARTS) ≤ i)
+IsOffArea area i =
+    (i < frame_place (FIRST_AREA + AREA_FRAMES * area)) ⊎ (frame_place (FIRST_AREA + AREA_FRAMES * area + PARTS) ≤ i)
 
 -- the running pages read so
 abbrev pub AreRunningWords : (ℕ → ℕ → ℕ) → (ℕ → Word) → Type 0
-AreRunningWords words f = (page i : ℕ) → page < PAGES → i < FRAME_WORDS → (f (running_place page i)).cached ≡ words page i
+AreRunningWords words f =
+    (page i : ℕ) → page < STATE_PAGES → i < FRAME_WORDS → (f (running_place page i)).cached ≡ words page i
 
 -- the last part is the record of a thread and of the counts of entries put
 abbrev pub IsRecordOf : (ℕ → ℕ → ℕ) → RunThread → List ℕ → Type 0

@@ -4,8 +4,10 @@
 -- executed, and a group with a capability of all rights to each of its objects. None of these objects is ever dropped,
 -- so a commit sweeps nothing.
 use Rattle.std.specs.Prelude.{ℕ, zero, suc, ◌+◌, ◌-◌, ◌*◌, ◌/◌, ◌%◌, ◌^◌, ◌==◌, ◌&&◌, ◌||◌, not, nat_lt, nat_le, Bool, true, false, if◌then◌else◌, min, List, [], ◌∷◌, ◌++◌, length, replicate, slice_index, slice_index_or, slice_set, Option, Some, None}
-use Rattle.sls_base.specs.declared.limits.TheConstants.{PAGE_BYTES, ENTRY_BYTES, RING_ENTRIES, CORE_SLICE}
+use Rattle.sls_base.specs.declared.limits.TheConstants.{PAGE_BYTES, INSTRUCTION_BYTES, ENTRY_BYTES, RING_ENTRIES, CORE_SLICE}
+use Rattle.sls_base.specs.declared.causes.TheConstants.{HALTED, ILLEGAL_WORD, NO_ACCESS}
 use Rattle.sls_base.specs.declared.entry.Entry.{Entry}
+use Rattle.sls_base.specs.Counts.{one_more}
 use Rattle.rv_table.specs.declared.Instr.{Instr}
 use Rattle.rv_table.specs.Decoded.{decoded}
 use Rattle.rv_core.specs.declared.registers.Plan.{Plan}
@@ -67,7 +69,7 @@ abbrev pub register : State → ℕ → ℕ
 register s i = slice_index s.thread.regs.x i
 
 abbrev pub next_pc : State → ℕ
-next_pc s = plus s.thread.regs.pc 4
+next_pc s = plus s.thread.regs.pc INSTRUCTION_BYTES
 
 -- Calls: x17 names the call, x10 to x12 have its arguments, and x10 gets its answer.
 
@@ -121,15 +123,17 @@ put_done s None = record {
 -- call 1 is halt, call 2 is put, and no other is known
 abbrev pub call : (ℕ → ℕ) → State → Outcome
 call accepted s =
-    if register s 17 == 1 then Stops 0
+    if register s 17 == 1 then Stops HALTED
     else (if register s 17 == 2 then GoesOn (put_done s (put_refusal accepted s))
     else GoesOn (answered s (refusal_number BadCall)))
 
--- what an instruction's effect does to a state; cause 4 is an access past the page
+-- what an instruction's effect does to a state; past the page there is no access
 abbrev pub carried_out : (ℕ → ℕ) → State → Plan → Outcome
 carried_out accepted s (Set rd value pc) = GoesOn (set_register s rd value pc)
 carried_out accepted s (Load op rd at) =
-    if covers at (size_of op) then GoesOn (set_register s rd (extended op (number_at s.byte at (size_of op))) (next_pc s)) else Stops 4
+    if covers at (size_of op)
+    then GoesOn (set_register s rd (extended op (number_at s.byte at (size_of op))) (next_pc s))
+    else Stops NO_ACCESS
 carried_out accepted s (Store op at value) =
     if covers at (size_of op)
     then GoesOn (record {
@@ -137,19 +141,21 @@ carried_out accepted s (Store op at value) =
       byte = stored_at s.byte at (size_of op) value;
       out = s.out;
     })
-    else Stops 4
+    else Stops NO_ACCESS
 carried_out accepted s Call = call accepted s
 carried_out accepted s (Stop cause) = Stops cause
 
--- the instruction of a word; cause 1 is a word that is none
+-- the instruction of a word, if it is one
 abbrev pub obeyed : (ℕ → ℕ) → State → Option Instr → Outcome
-obeyed accepted s None = Stops 1
+obeyed accepted s None = Stops ILLEGAL_WORD
 obeyed accepted s (Some instr) = carried_out accepted s (effect instr s.thread.regs)
 
--- the instruction at pc; cause 4 is a fetch past the page
+-- the instruction at pc
 abbrev pub instruction : (ℕ → ℕ) → State → Outcome
 instruction accepted s =
-    if covers s.thread.regs.pc 4 then obeyed accepted s (decoded (number_at s.byte s.thread.regs.pc 4)) else Stops 4
+    if covers s.thread.regs.pc INSTRUCTION_BYTES
+    then obeyed accepted s (decoded (number_at s.byte s.thread.regs.pc INSTRUCTION_BYTES))
+    else Stops NO_ACCESS
 
 -- Ticks: a core that has no thread takes the front of the run queue with a whole slice, or is idle where the queue is
 -- empty. The one thread is in the queue where it is Ready, and on the core where it is Running.
@@ -212,10 +218,6 @@ first byte commits cuts = record {
   commits = commits;
   cuts = cuts;
 }
-
--- one more, up to the greatest number that is counted
-abbrev pub one_more : ℕ → ℕ
-one_more n = min (n + 1) (2 ^ 64 - 1)
 
 abbrev pub tick : World → World
 tick w = record w { now = ticked (accepted_count w) w.now }

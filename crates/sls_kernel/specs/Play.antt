@@ -48,8 +48,8 @@ booted nvm = record { doing = Formatting; turns = 17; memory = nvm }
 
 -- One event.
 
--- how a turn with this answer goes: where the machine doesn't run there are fewer turns left, and none is left exactly where
--- it then runs
+-- how a turn with this answer goes: where the machine doesn't run there are fewer turns left, and none is left exactly
+-- where it then runs
 pub record TurnGoes (old : Side) (did : Did) (new : Side) : Type 0 where
   pub doing : ModeGoes old.doing did new.doing
   pub turns : (old.doing ≡ Running) ⊎ (new.turns < old.turns)
@@ -93,7 +93,8 @@ IsAnswer Turn (told.Did did) old w new = TurnGoes old did new × IsLawful w did
 IsAnswer Ask (told.Asked asked) old w new = AskedGoes old asked new × IsLawfulAsked w asked
 IsAnswer Ask told.NotUp old w new = IsNotUp old new
 IsAnswer (WriteBack word) (told.WroteBack version) old w new = WriteBackGoes word old version new × IsWritten w version
-IsAnswer (Accept channel) (told.Accepted on entry) old w new = IsServing old.doing × (new ≡ old) × (on ≡ channel) × (entry ≡ offered w channel)
+IsAnswer (Accept channel) (told.Accepted on entry) old w new =
+    IsServing old.doing × (new ≡ old) × (on ≡ channel) × (entry ≡ offered w channel)
 IsAnswer (Accept channel) told.NotUp old w new = IsNotUp old new
 IsAnswer Cut told.Restarted old w new = CutGoes old new
 IsAnswer event answer old w new = ⊥
@@ -128,15 +129,16 @@ IsReleased w = (channel : ℕ) → IsPrefixOf (w.released channel) (w.saved.out 
 
 -- Where memory was missing.
 
--- The machine was cut and not lit: what is durable stays, and the memory without power shows the world after the cut, as
--- light with this image will.
+-- The machine was cut and not lit: what is durable stays, and the memory without power shows the world after the cut,
+-- as light with this image will.
 pub record IsDark (image : Image) (old : Side) (w : World) (off : Off) : Type 0 where
   pub words : (i : ℕ) → word_at off.nvm i ≡ cuts (word_at old.memory) i
   pub shows : ShowsOff off w
   pub unformatted : durable_words off.nvm 0 ≡ 0 → w ≡ first (program_bytes image) w.commits w.cuts
 
 -- a play came as far as a cut, with these answers to the events before it, and the machine was not lit again
-pub record IsUnlit (image : Image) (events : List Event) (answers : List Answer) (old : Side) (w : World) (off : Off) : Type 0 where
+pub record IsUnlit
+    (image : Image) (events : List Event) (answers : List Answer) (old : Side) (w : World) (off : Off) : Type 0 where
   pub done : List Event
   pub rest : List Event
   pub split : events ≡ done ++ Cut ∷ rest

@@ -12,7 +12,7 @@ use Rattle.sls_kernel.specs.Stages.{saved_kind, other_kind, running_kind, format
 use Rattle.sls_kernel.specs.declared.area.TheConstants.{RECORD_PART}
 use Rattle.sls_kernel.specs.declared.machine.TheConstants.{PROGRAM_PAGE}
 use Rattle.sls_kernel.specs.declared.record.TheConstants.{RECORD_WORDS}
-use Rattle.sls_kernel.specs.declared.stage.TheConstants.{PAGES, PARTS}
+use Rattle.sls_kernel.specs.declared.stage.TheConstants.{STATE_PAGES, PARTS}
 use Rattle.sls_kernel.specs.declared.stage.Stage.{Stage}
 use Rattle.sls_kernel.specs.declared.stage.Stage.TheVariants.{Format, Recover, Up, Checkpoint}
 use Rattle.sls_kernel.specs.declared.stage.CheckpointStep.{CheckpointStep}
@@ -43,8 +43,14 @@ pub record Stands (durable : ℕ → ℕ) (accepted : ℕ → ℕ) (s : State) :
   pub in_range : durable 1 ≤ LAST_VERSION
   pub table : (i : ℕ) → 2 ≤ i → i < TABLE_WORDS → durable i ≡ 0
   pub area : AreState (area_words durable (area_of (durable 1))) accepted s
-  pub record_rest : (i : ℕ) → RECORD_WORDS ≤ i → i < FRAME_WORDS → durable (area_place (area_of (durable 1)) RECORD_PART i) ≡ 0
+  pub record_rest : (i : ℕ) → RECORD_WORDS ≤ i → i < FRAME_WORDS
+      → durable (area_place (area_of (durable 1)) RECORD_PART i) ≡ 0
   pub accepted_put : (channel : ℕ) → channel < 4 → accepted channel ≤ put_count s channel
+
+-- durable words stand for the state that a world has saved, and word 1 is the world's version
+pub record StandsFor (durable : ℕ → ℕ) (w : World) : Type 0 where
+  pub version : durable 1 ≡ w.version
+  pub saved : Stands durable (accepted_count w) w.saved
 
 -- the durable words of a memory
 abbrev pub durable_words : Memory → ℕ → ℕ
@@ -68,7 +74,8 @@ MayBeFormatted program i x =
     (x ≡ 0)
     ⊎ (((i ≡ 0) × (x ≡ format_word))
     ⊎ (((o : ℕ) × (o < FRAME_WORDS) × (i ≡ running_place PROGRAM_PAGE o) × (x ≡ first_words program PROGRAM_PAGE o))
-    ⊎ ((part : ℕ) × (o : ℕ) × (part < PARTS) × (o < part_words part) × (i ≡ area_place 0 part o) × (x ≡ first_words program part o))))
+    ⊎ ((part : ℕ) × (o : ℕ) × (part < PARTS) × (o < part_words part)
+    × (i ≡ area_place 0 part o) × (x ≡ first_words program part o))))
 
 pub record IsFormatting (program : List ℕ) (f : ℕ → Word) : Type 0 where
   pub cached : (i : ℕ) → MayBeFormatted program i (f i).cached
@@ -93,23 +100,28 @@ pub record HasCounts (m : Memory) (w : World) : Type 0 where
 
 -- The machine.
 
--- What is known of the words of a memory, whatever is written back: of the format word, of the version word, of the area
--- of the version, of the other area, and of the running pages. The other words of the table are zero, and so are those
--- behind the records of both areas in their frames.
-pub record WordsAre (format_is : Kind) (format_reads : ℕ) (version_is : Kind) (version_reads : ℕ) (saved_are other_are running_are : ℕ → Kind) (f : ℕ → Word) (v : ℕ) (now saved : ℕ → ℕ → ℕ) : Type 0 where
+-- What is known of the words of a memory, whatever is written back: of the format word, of the version word, of the
+-- area of the version, of the other area, and of the running pages. The other words of the table are zero, and so are
+-- those behind the records of both areas in their frames.
+pub record WordsAre
+    (format_is : Kind) (format_reads : ℕ) (version_is : Kind) (version_reads : ℕ)
+    (saved_are other_are running_are : ℕ → Kind) (f : ℕ → Word) (v : ℕ) (now saved : ℕ → ℕ → ℕ) : Type 0 where
   pub format : WordIs 0 format_is (f 0) format_reads
   pub version : WordIs 0 version_is (f 1) version_reads
   pub version_durable : (f 1).durable ≡ v
   pub table : (i : ℕ) → 2 ≤ i → i < TABLE_WORDS → WordIs 0 Clean (f i) 0
   pub saved_area : PartsAre saved_are f (area_place (area_of v)) saved
   pub other_area : PartsAre other_are f (area_place (area_of (v + 1))) now
-  pub running : (page i : ℕ) → page < PAGES → i < FRAME_WORDS → WordIs 0 (running_are page) (f (running_place page i)) (now page i)
-  pub record_rest : (area i : ℕ) → area < 2 → RECORD_WORDS ≤ i → i < FRAME_WORDS → WordIs 0 Clean (f (area_place area RECORD_PART i)) 0
+  pub running : (page i : ℕ) → page < STATE_PAGES → i < FRAME_WORDS
+      → WordIs 0 (running_are page) (f (running_place page i)) (now page i)
+  pub record_rest : (area i : ℕ) → area < 2 → RECORD_WORDS ≤ i → i < FRAME_WORDS
+      → WordIs 0 Clean (f (area_place area RECORD_PART i)) 0
 
 -- what is known of them in a stage
 abbrev pub WordsShow : Stage → (ℕ → Word) → ℕ → (ℕ → ℕ → ℕ) → (ℕ → ℕ → ℕ) → Type 0
 WordsShow stage f v now saved =
-    WordsAre (format_kind stage) (format_value stage) (version_kind stage) (version_value stage v) (saved_kind stage) (other_kind stage) (running_kind stage) f v now saved
+    WordsAre (format_kind stage) (format_value stage) (version_kind stage) (version_value stage v)
+    (saved_kind stage) (other_kind stage) (running_kind stage) f v now saved
 
 -- the thread, and the counts of entries put, are those of a state
 pub record IsRunning (thread : RunThread) (put : List ℕ) (s : State) : Type 0 where
@@ -193,4 +205,5 @@ pub record ShowsOff (off : Off) (w : World) : Type 0 where
   pub counted : IsCounted off.accepted w
   pub counts : HasCounts off.nvm w
   pub now : w.now ≡ w.saved
-  pub record_rest : (area i : ℕ) → area < 2 → RECORD_WORDS ≤ i → i < FRAME_WORDS → durable_words off.nvm (area_place area RECORD_PART i) ≡ 0
+  pub record_rest : (area i : ℕ) → area < 2 → RECORD_WORDS ≤ i → i < FRAME_WORDS
+      → durable_words off.nvm (area_place area RECORD_PART i) ≡ 0

@@ -58,7 +58,9 @@ IsServing AfterCommit = Unit {0}
 abbrev pub ModeGoesInner : Mode → Why → Mode → Type 0
 ModeGoesInner old why.Format new = (old ≡ Formatting) × (new ≡ Formatting)
 ModeGoesInner old why.Recover new = (old ≡ Recovering) × (new ≡ Recovering)
-ModeGoesInner old why.Lead new = ((old ≡ BeforeCommit) × (new ≡ BeforeCommit)) ⊎ ((old ≡ AfterCommit) × ((new ≡ AfterCommit) ⊎ (new ≡ Running)))
+ModeGoesInner old why.Lead new =
+    ((old ≡ BeforeCommit) × (new ≡ BeforeCommit))
+    ⊎ ((old ≡ AfterCommit) × ((new ≡ AfterCommit) ⊎ (new ≡ Running)))
 ModeGoesInner old (why.Prepare page) new = ⊥
 ModeGoesInner old (why.Home page) new = ⊥
 ModeGoesInner old (why.Wait page core) new = ⊥

@@ -3,7 +3,7 @@ use Rattle.std.specs.Prelude.{ℕ, ◌+◌, ◌-◌, nat_lt, Bool, true, if◌th
 use Rattle.pmem_model.specs.Events.{Kind, Any, Cached, Ready, Clean, Over, ReadyOver}
 use Rattle.sls_kernel.specs.declared.area.TheConstants.{RECORD_PART}
 use Rattle.sls_kernel.specs.declared.machine.TheConstants.{PROGRAM_PAGE}
-use Rattle.sls_kernel.specs.declared.stage.TheConstants.{PAGES, PARTS}
+use Rattle.sls_kernel.specs.declared.stage.TheConstants.{STATE_PAGES, PARTS}
 use Rattle.sls_kernel.specs.declared.stage.SaveStep.{SaveStep}
 use Rattle.sls_kernel.specs.declared.stage.SaveStep.TheVariants.{Copy, Record, Flush, Fence}
 use Rattle.sls_kernel.specs.declared.stage.FormatStep.{FormatStep}
@@ -15,7 +15,7 @@ use Rattle.sls_kernel.specs.declared.stage.Stage.TheVariants.{Format, Recover, U
 
 -- The numbers in steps are in range.
 abbrev pub is_save_step : SaveStep → Bool
-is_save_step (Copy page) = nat_lt page PAGES
+is_save_step (Copy page) = nat_lt page STATE_PAGES
 is_save_step Record = true
 is_save_step (Flush part) = nat_lt part PARTS
 is_save_step Fence = true
@@ -37,13 +37,13 @@ is_checkpoint_step FenceAgain = true
 
 abbrev pub is_stage : Stage → Bool
 is_stage (Format step) = is_format_step step
-is_stage (Recover page) = nat_lt page PAGES
+is_stage (Recover page) = nat_lt page STATE_PAGES
 is_stage Up = true
 is_stage (Checkpoint step) = is_checkpoint_step step
 
 -- What comes next.
 abbrev pub step_after : SaveStep → Option SaveStep
-step_after (Copy page) = (if nat_lt (page + 1) PAGES then Some (Copy (page + 1)) else Some Record)
+step_after (Copy page) = (if nat_lt (page + 1) STATE_PAGES then Some (Copy (page + 1)) else Some Record)
 step_after Record = Some (Flush 0)
 step_after (Flush part) = (if nat_lt (part + 1) PARTS then Some (Flush (part + 1)) else Some Fence)
 step_after Fence = None

@@ -43,12 +43,16 @@ SameOutside frame old new = (i : ℕ) → IsOutside frame i → word_at new i �
 -- these words are an entry of so many bytes of a page from an address on
 pub record AreEntry (words : List ℕ) (byte : ℕ → ℕ) (at count : ℕ) : Type 0 where
   pub size : slice_index words 0 ≡ count
-  pub bytes : (k : ℕ) → k < ENTRY_BYTES → byte_of (slice_index words (1 + k / 8)) (k % 8) ≡ slice_index (bytes_at byte at count) k
+  pub bytes : (k : ℕ) → k < ENTRY_BYTES
+      → byte_of (slice_index words (1 + k / 8)) (k % 8) ≡ slice_index (bytes_at byte at count) k
 
 -- what a slot is: the channel of an output ring, or none
 abbrev pub SlotFound : Result ℕ Refusal → ℕ → Type 0
-SlotFound (Ok channel) slot = (is_empty_slot slot ≡ false) × (is_output_slot slot ≡ true) × (channel ≡ slot - 2) × (channel < 4)
-SlotFound (Err refusal) slot = (if is_empty_slot slot then Some NoCap else (if not (is_output_slot slot) then Some WrongKind else None)) ≡ Some refusal
+SlotFound (Ok channel) slot =
+    (is_empty_slot slot ≡ false) × (is_output_slot slot ≡ true) × (channel ≡ slot - 2) × (channel < 4)
+SlotFound (Err refusal) slot =
+    (if is_empty_slot slot then Some NoCap
+    else (if not (is_output_slot slot) then Some WrongKind else None)) ≡ Some refusal
 
 -- the state with the entry of a put
 abbrev pub with_put : State → State

@@ -49,11 +49,13 @@ pub record IsEntry (words : ℕ → ℕ) (number : ℕ) (entry : List ℕ) : Typ
   pub some : 1 ≤ length entry
   pub most : length entry ≤ ENTRY_BYTES
   pub size : words (8 * (number % RING_ENTRIES)) ≡ length entry
-  pub bytes : (k : ℕ) → k < ENTRY_BYTES → byte_of (words (8 * (number % RING_ENTRIES) + 1 + k / 8)) (k % 8) ≡ slice_index entry k
+  pub bytes : (k : ℕ) → k < ENTRY_BYTES
+      → byte_of (words (8 * (number % RING_ENTRIES) + 1 + k / 8)) (k % 8) ≡ slice_index entry k
 
 -- a ring's page has each entry that the device hasn't accepted
 pub record IsRing (words : ℕ → ℕ) (accepted : ℕ) (out : List (List ℕ)) : Type 0 where
-  pub entries : (number : ℕ) → accepted ≤ number → number < length out → IsEntry words number (slice_index_or out number [])
+  pub entries : (number : ℕ) → accepted ≤ number → number < length out
+      → IsEntry words number (slice_index_or out number [])
   pub room : length out ≤ accepted + RING_ENTRIES
   pub number : length out < 2 ^ 64
 

@@ -52,7 +52,7 @@ pub struct BootRefused {
 }
 
 /// Why a memory is not lit.
-#[derive(Clone, Copy, Debug, PartialEq, Eq)]
+#[derive(Clone, Copy)]
 pub enum LightCause {
     Memory,
     NotFormatted,

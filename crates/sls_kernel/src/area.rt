@@ -21,7 +21,7 @@ const FIRST_AREA: usize = 16;
 const AREA_FRAMES: usize = 8;
 
 /// The part of an area that has the thread's record; the parts below it are the pages.
-const RECORD_PART: u8 = 5;
+pub const RECORD_PART: u8 = 5;
 
 /// The frame of a running page.
 pub fn running_frame(page: u8) -> usize

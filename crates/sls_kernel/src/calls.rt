@@ -1,7 +1,7 @@
 //! The calls of a program.
 
 /// Why a call is refused. A refused call changes x10 and pc alone.
-#[derive(Clone, Copy, Debug, PartialEq, Eq)]
+#[derive(Clone, Copy)]
 pub enum Refusal {
     /// No call has this number.
     BadCall,

@@ -21,6 +21,3 @@ pub use calls::Refusal;
 pub use machine::{Machine, Off};
 pub use play::{Answer, BootPlayBroken, Event, PlayBroken, Played, play_from_boot};
 pub use thread::{RunThread, Status};
-
-#[cfg(test)]
-mod tests;

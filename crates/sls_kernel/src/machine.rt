@@ -9,7 +9,8 @@ ghost use Rattle.sls_kernel.specs.declared.thread.Status.TheVariants as status;
 
 use crate::answers::{Asked, BootRefused, Did, LightCause, LightRefused, Why};
 use crate::stage::{
-    CheckpointStep, FormatStep, PAGES, SaveStep, Stage, checkpoint_after, format_after, resumed,
+    CheckpointStep, FormatStep, STATE_PAGES, SaveStep, Stage, checkpoint_after, format_after,
+    resumed,
 };
 use crate::thread::{RunThread, Status};
 use crate::{area, memory, program, record, ring, run};
@@ -29,9 +30,6 @@ const FORMAT_WORD: u64 = 0x3153_4C53_4545_5254;
 
 /// The page of the program; the pages below it are the rings of the output channels.
 const PROGRAM_PAGE: u8 = 4;
-
-/// The part of an area that has the thread's record.
-const RECORD_PART: u8 = 5;
 
 /// A machine without power: its memory, and how many entries of each channel the device has accepted.
 #[derive(Drop)]
@@ -66,9 +64,10 @@ impl Machine {
     ghost use Rattle.sls_base.specs.declared.entry.Entry.{Entry};
     ghost use Rattle.pmem_model.specs.Words.{is_within, writes_back, cuts};
     ghost use Rattle.pmem_model.specs.Memory.{word_at};
-    ghost use Rattle.sls_kernel.specs.Plain.{World, first, cut, accept, offered, accepted_count, one_more};
+    ghost use Rattle.sls_kernel.specs.Plain.{World, first, cut, accept, offered};
+    ghost use Rattle.sls_base.specs.Counts.{one_more};
     ghost use Rattle.sls_kernel.specs.Program.{IsOfCode, program_bytes};
-    ghost use Rattle.sls_kernel.specs.Shows.{Shows, ShowsOff, Stands, IsUnformatted, IsPrefixOf, IsZero, durable_words, image_of, memory_of, accepted_of};
+    ghost use Rattle.sls_kernel.specs.Shows.{Shows, ShowsOff, StandsFor, IsUnformatted, IsPrefixOf, IsZero, durable_words, image_of, memory_of, accepted_of};
     ghost use Rattle.sls_kernel.specs.Side.{Mode, Formatting, Recovering, Running, BeforeCommit, AfterCommit, mode, left, IsServing, ModeGoes, turned, IsLawful, written, IsWritten, AskGoes, IsLawfulAsked};
     ghost use Rattle.sls_kernel.specs.declared.stage.Stage.TheVariants as stage;
 
@@ -137,12 +136,15 @@ impl Machine {
         1
     }
 
-    /// The memory. Its durable words stand for the saved state, or formatting has not come to its end.
+    /// The memory. Its durable words stand for the saved state of the version in word 1; but while the machine formats,
+    /// they may be without a format word.
     pub fn nvm(&self) -> &Pmem
         ensures memory { result.now ≡ memory_of self.now }
         ensures stands { (w : World) → Shows self.now w
-            → Stands (durable_words result.now) (accepted_count w) w.saved ⊎ IsUnformatted (durable_words result.now) w }
-        ensures released { (w : World) → Shows self.now w → (channel : ℕ) → IsPrefixOf (w.released channel) (w.saved.out channel) }
+            → StandsFor (durable_words result.now) w
+            ⊎ (mode self.now ≡ Formatting) × IsUnformatted (durable_words result.now) w }
+        ensures released { (w : World) → Shows self.now w
+            → (channel : ℕ) → IsPrefixOf (w.released channel) (w.saved.out channel) }
         ensures home { AllHome result.now }
     {
         &self.nvm
@@ -269,11 +271,11 @@ impl Machine {
             area::area_frame(area, page),
             area::running_frame(page),
         );
-        if page + 1 < PAGES {
+        if page + 1 < STATE_PAGES {
             self.stage = Stage::Recover(page + 1);
             return Did::Inner(Why::Recover);
         }
-        let (thread, put) = record::read_back(&self.nvm, area::area_frame(area, RECORD_PART));
+        let (thread, put) = record::read_back(&self.nvm, area::area_frame(area, area::RECORD_PART));
         self.thread = thread;
         self.put = put;
         self.stage = Stage::Up;
@@ -332,9 +334,11 @@ impl Machine {
     /// Makes the cached value of a word durable, at any moment. Where that commits a checkpoint, it tells the version.
     pub fn write_back(&mut self, word: usize) -> Option<Version>
         requires { word < WORDS }
-        ensures words { (i : ℕ) → word_at (memory_of self.new) i ≡ writes_back (is_within word 1) (word_at (memory_of self.old)) i }
+        ensures words { (i : ℕ) → word_at (memory_of self.new) i
+            ≡ writes_back (is_within word 1) (word_at (memory_of self.old)) i }
         ensures none { IfNone result ((mode self.new ≡ mode self.old) × (left self.new ≡ left self.old)) }
-        ensures commit { IfSome result (λ v. (mode self.old ≡ BeforeCommit) × (mode self.new ≡ AfterCommit) × (left self.old ≤ 2)) }
+        ensures commit { IfSome result (λ v.
+            (mode self.old ≡ BeforeCommit) × (mode self.new ≡ AfterCommit) × (left self.old ≤ 2)) }
         ensures left { left self.new ≡ left self.old }
         ensures image { image_of self.new ≡ image_of self.old }
         ensures world { (w : World) → Shows self.old w → IsWritten w result × Shows self.new (written w result) }
@@ -351,9 +355,12 @@ impl Machine {
 
     /// The least word from `word` on whose cached and durable values differ.
     pub fn dirty_from(&self, word: usize) -> Option<usize>
-        ensures found { IfSome result (λ i. (word ≤ i) × (i < WORDS) × ((word_at (memory_of self.now) i).cached ≢ (word_at (memory_of self.now) i).durable)) }
-        ensures before { IfSome result (λ k. (i : ℕ) → word ≤ i → i < k → (word_at (memory_of self.now) i).cached ≡ (word_at (memory_of self.now) i).durable) }
-        ensures none { IfNone result ((i : ℕ) → word ≤ i → i < WORDS → (word_at (memory_of self.now) i).cached ≡ (word_at (memory_of self.now) i).durable) }
+        ensures found { IfSome result (λ i. (word ≤ i) × (i < WORDS)
+            × ((word_at (memory_of self.now) i).cached ≢ (word_at (memory_of self.now) i).durable)) }
+        ensures before { IfSome result (λ k. (i : ℕ) → word ≤ i → i < k
+            → (word_at (memory_of self.now) i).cached ≡ (word_at (memory_of self.now) i).durable) }
+        ensures none { IfNone result ((i : ℕ) → word ≤ i → i < WORDS
+            → (word_at (memory_of self.now) i).cached ≡ (word_at (memory_of self.now) i).durable) }
     {
         self.nvm.dirty_from(word)
     }
@@ -365,12 +372,13 @@ impl Machine {
         ensures mode { (mode self.new ≡ mode self.old) × (left self.new ≡ left self.old) }
         ensures memory { memory_of self.new ≡ memory_of self.old }
         ensures image { image_of self.new ≡ image_of self.old }
-        ensures world { (w : World) → Shows self.old w → (result ≡ offered w channel) × Shows self.new (accept w channel) }
+        ensures world { (w : World) → Shows self.old w
+            → (result ≡ offered w channel) × Shows self.new (accept w channel) }
     {
         let area = area::area_of_version(memory::table_durable(&self.nvm, VERSION_PLACE));
         let put = memory::durable(
             &self.nvm,
-            area::area_frame(area, RECORD_PART),
+            area::area_frame(area, area::RECORD_PART),
             record::PUT_WORD + channel as usize,
         );
         let number = self.accepted[channel as usize];
@@ -388,7 +396,8 @@ impl Machine {
         ensures home { AllHome result.nvm }
         ensures accepted { result.accepted ≡ accepted_of self }
         ensures shows { (w : World) → Shows self w → ShowsOff result (cut w) }
-        ensures formatted { (w : World) → Shows self w → durable_words result.nvm 0 ≡ 0 → cut w ≡ first (image_of self) w.commits (one_more w.cuts) }
+        ensures formatted { (w : World) → Shows self w → durable_words result.nvm 0 ≡ 0
+            → cut w ≡ first (image_of self) w.commits (one_more w.cuts) }
         ensures unformatted { (w : World) → Shows self w → durable_words result.nvm 0 ≡ 0 → mode self ≡ Formatting }
     {
         let Machine {
@@ -418,8 +427,8 @@ impl Off {
     /// Gives the power back: the machine recovers from its memory, or formats it again where it was cut within
     /// formatting, by turns of core 0 until it is up. The only refusal is want of memory, and gives this value back.
     ///
-    /// The image is the one that the memory was formatted with, and there is one core. Both are ignored unless formatting
-    /// begins again.
+    /// The image is the one that the memory was formatted with, and there is one core. Both are ignored unless
+    /// formatting begins again.
     pub fn light(self, alloc: Global, image: &Image, cores: u8) -> Result<Machine, LightRefused>
         requires home { AllHome self.nvm }
         requires image { durable_words self.nvm 0 ≡ 0 → IsOfCode image.now }

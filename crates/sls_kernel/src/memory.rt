@@ -60,7 +60,8 @@ pub fn write_back(nvm: &mut Pmem, at: usize)
     ensures words { (p : ℕ) → word_at nvm.new p ≡ writes_back (is_within at 1) (word_at nvm.old) p }
     ensures home { AllHome nvm.new }
     ensures commits { nvm.new.commits
-        ≡ (if (word_at nvm.new 1).durable == (word_at nvm.old 1).durable then nvm.old.commits else count_up nvm.old.commits) }
+        ≡ (if (word_at nvm.new 1).durable == (word_at nvm.old 1).durable
+        then nvm.old.commits else count_up nvm.old.commits) }
     ensures cuts { nvm.new.cuts ≡ nvm.old.cuts }
 {
     nvm.write_back(at);
@@ -150,7 +151,8 @@ pub fn fence(nvm: &mut Pmem)
     ensures words { (p : ℕ) → word_at nvm.new p ≡ fences LEADER (word_at nvm.old) p }
     ensures home { AllHome nvm.new }
     ensures commits { nvm.new.commits
-        ≡ (if (word_at nvm.new 1).durable == (word_at nvm.old 1).durable then nvm.old.commits else count_up nvm.old.commits) }
+        ≡ (if (word_at nvm.new 1).durable == (word_at nvm.old 1).durable
+        then nvm.old.commits else count_up nvm.old.commits) }
     ensures cuts { nvm.new.cuts ≡ nvm.old.cuts }
 {
     nvm.fence(LEADER);

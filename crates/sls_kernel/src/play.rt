@@ -17,10 +17,10 @@ use std::alloc::Global;
 const CORE: CoreNo = 0;
 
 /// How many cores there are.
-const CORES: u8 = 1;
+const CORE_COUNT: u8 = 1;
 
 /// What befalls a machine.
-#[derive(Clone, Copy, Debug, PartialEq, Eq)]
+#[derive(Clone, Copy)]
 pub enum Event {
     /// A turn of the core.
     Turn,
@@ -89,8 +89,8 @@ impl Machine {
     /// Puts the machine through a list of events of any kind and order, and gives an answer to each. The image is the
     /// one that it was made with.
     ///
-    /// The only refusal is want of memory. With none for the answers the machine comes back as it was; with none to light
-    /// it again after a cut it comes back without power, with the answers to the events before that cut.
+    /// The only refusal is want of memory. With none for the answers the machine comes back as it was; with none to
+    /// light it again after a cut it comes back without power, with the answers to the events before that cut.
     pub fn play(self, alloc: Global, image: &Image, events: &[Event]) -> Result<Played, PlayBroken>
         requires image { IsOfCode image.now }
         requires made { image_of self ≡ program_bytes image.now }
@@ -154,7 +154,7 @@ impl Machine {
                 let answer = self.accept_if_up(channel);
                 Ok((self, answer))
             }
-            Event::Cut => match self.cut().light(alloc, image, CORES) {
+            Event::Cut => match self.cut().light(alloc, image, CORE_COUNT) {
                 Ok(machine) => Ok((machine, Answer::Restarted)),
                 Err(refused) => Err(refused.off),
             },
@@ -177,7 +177,8 @@ impl Machine {
         requires { channel < OUTPUT_CHANNELS }
         ensures image { image_of self.new ≡ image_of self.old }
         ensures world { (w : World) → Shows self.old w
-            → IsAnswer (Event.Accept channel) result (side_of self.old) w (side_of self.new) × Shows self.new (after w result) }
+            → IsAnswer (Event.Accept channel) result (side_of self.old) w (side_of self.new)
+            × Shows self.new (after w result) }
     {
         if self.is_up() {
             Answer::Accepted(channel, self.accept(channel))
@@ -208,15 +209,19 @@ pub fn play_from_boot(
     // Each answer is one that the plain machine allows, and the machine shows the world after the answers.
     ensures plays { IfOk result (λ p. IsPlayed events.now p.answers.items
         (booted nvm) (first (program_bytes image.now) nvm.commits nvm.cuts) (side_of p.machine)) }
-    ensures shows { IfOk result (λ p. Shows p.machine (played (first (program_bytes image.now) nvm.commits nvm.cuts) p.answers.items)) }
-    ensures released { IfOk result (λ p. IsReleased (played (first (program_bytes image.now) nvm.commits nvm.cuts) p.answers.items)) }
+    ensures shows { IfOk result (λ p. Shows p.machine
+        (played (first (program_bytes image.now) nvm.commits nvm.cuts) p.answers.items)) }
+    ensures released { IfOk result (λ p. IsReleased
+        (played (first (program_bytes image.now) nvm.commits nvm.cuts) p.answers.items)) }
 
     ensures not_booted { IfErr result (λ e. IfNotBooted e (λ refused. refused.nvm ≡ nvm)) }
-    ensures no_room { IfErr result (λ e. IfBroken e (λ broken. IfNoRoom broken (λ machine. (side_of machine ≡ booted nvm)
-        × (image_of machine ≡ program_bytes image.now) × Shows machine (first (program_bytes image.now) nvm.commits nvm.cuts)))) }
+    ensures no_room { IfErr result (λ e. IfBroken e (λ broken. IfNoRoom broken (λ machine.
+        (side_of machine ≡ booted nvm) × (image_of machine ≡ program_bytes image.now)
+        × Shows machine (first (program_bytes image.now) nvm.commits nvm.cuts)))) }
     ensures home { IfErr result (λ e. IfBroken e (λ broken. IfUnlit broken (λ off answers. AllHome off.nvm))) }
     ensures unlit { IfErr result (λ e. IfBroken e (λ broken. IfUnlit broken (λ off answers.
-        IsUnlit image.now events.now answers (booted nvm) (first (program_bytes image.now) nvm.commits nvm.cuts) off))) }
+        IsUnlit image.now events.now answers
+        (booted nvm) (first (program_bytes image.now) nvm.commits nvm.cuts) off))) }
 {
     let machine = match Machine::boot(alloc, image, cores, nvm) {
         Ok(machine) => machine,

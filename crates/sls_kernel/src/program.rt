@@ -13,7 +13,8 @@ const WORD_BYTES: usize = 8;
 /// The words of the page that the image's program begins with.
 pub fn page_words(alloc: Global, image: &Image) -> Result<Vec<u64>, AllocError>
     ensures size { IfOk result (λ words. length words.items ≡ PAGE_WORDS) }
-    ensures bytes { IfOk result (λ words. (a : ℕ) → byte_of (slice_index words.items (a / 8)) (a % 8) ≡ program_bytes image.now a) }
+    ensures bytes { IfOk result (λ words. (a : ℕ)
+        → byte_of (slice_index words.items (a / 8)) (a % 8) ≡ program_bytes image.now a) }
     ensures range { IfOk result (λ words. (i : ℕ) → slice_index words.items i < 2 ^ 64) }
 {
     let content = content(image);
@@ -28,14 +29,13 @@ pub fn page_words(alloc: Global, image: &Image) -> Result<Vec<u64>, AllocError>
 fn content(image: &Image) -> &[u8]
     ensures { result.now ≡ program_content image.now.programs.items }
 {
-    let region = image
-        .programs
-        .first()
-        .and_then(|program| program.regions.first());
-    match region {
-        Some(region) => &region.content,
-        None => &[],
-    }
+    let [program, ..] = image.programs.as_slice() else {
+        return &[];
+    };
+    let [region, ..] = program.regions.as_slice() else {
+        return &[];
+    };
+    region.content.as_slice()
 }
 
 /// The word of the eight bytes from `at` on, the lowest first, with zeros past the content's end.
@@ -43,7 +43,11 @@ fn word_from(content: &[u8], at: usize) -> u64
     requires { at < PAGE_BYTES }
     ensures { (k : ℕ) → k < 8 → byte_of result k ≡ slice_index content.now (at + k) }
 {
-    u64::from_le_bytes(std::array::from_fn(|k| byte_at(content, at + k)))
+    let mut bytes = [0; WORD_BYTES];
+    for (k, byte) in bytes.iter_mut().enumerate() {
+        *byte = byte_at(content, at + k);
+    }
+    u64::from_le_bytes(bytes)
 }
 
 /// The byte at a place, which is zero past the content's end.

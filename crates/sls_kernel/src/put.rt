@@ -102,7 +102,9 @@ fn append(nvm: &mut Pmem, channel: usize, number: u64, words: &[u64; ENTRY_WORDS
     requires channel { channel < OUTPUT_CHANNELS }
     requires home { AllHome nvm.old }
     ensures words { (i : ℕ) → running_words (word_at nvm.new) channel i
-        ≡ (if is_within (ENTRY_WORDS * (number % RING_ENTRIES)) ENTRY_WORDS i then slice_index words.now (i - ENTRY_WORDS * (number % RING_ENTRIES)) else running_words (word_at nvm.old) channel i) }
+        ≡ (if is_within (ENTRY_WORDS * (number % RING_ENTRIES)) ENTRY_WORDS i
+        then slice_index words.now (i - ENTRY_WORDS * (number % RING_ENTRIES))
+        else running_words (word_at nvm.old) channel i) }
     ensures outside { SameOutside (2 * channel) nvm.old nvm.new }
     ensures home { AllHome nvm.new }
     ensures counts { SameCounts nvm.old nvm.new }
@@ -122,7 +124,8 @@ pub fn put(
     ensures home { AllHome nvm.new }
     ensures rest { (i : ℕ) → IsOffPages i → word_at nvm.new i ≡ word_at nvm.old i }
     ensures counts { SameCounts nvm.old nvm.new }
-    ensures state { (s : State) (count : ℕ → ℕ) → Tells accepted.now count → RunsAs thread.now counts.old (word_at nvm.old) count s
+    ensures state { (s : State) (count : ℕ → ℕ) → Tells accepted.now count
+        → RunsAs thread.now counts.old (word_at nvm.old) count s
         → HasPut result thread.now counts.new (word_at nvm.new) count s }
 {
     let channel = channel_of(thread.regs.x[SLOT])?;

@@ -129,7 +129,8 @@ fn put_at(nvm: &Pmem, frame: usize) -> [u64; OUTPUT_CHANNELS]
     put
 }
 
-/// Reads the thread and the counts of a record that stands at a frame's begin. Words that are no record give some thread.
+/// Reads the thread and the counts of a record that stands at a frame's begin. Words that are no record give some
+/// thread.
 pub fn read_back(nvm: &Pmem, frame: usize) -> (RunThread, [u64; 4])
     requires frame { frame < FRAMES }
     requires home { AllHome nvm.now }

@@ -50,7 +50,8 @@ fn durable_length(nvm: &Pmem, frame: usize, number: u64) -> usize
 pub fn durable_entry(nvm: &Pmem, frame: usize, number: u64) -> ArrayVec<u8, 56>
     requires frame { frame < FRAMES }
     requires home { AllHome nvm.now }
-    ensures { (entry : List ℕ) → IsEntry (λ i. (word_at nvm.now (frame_place frame + i)).durable) number entry → result.items ≡ entry }
+    ensures { (entry : List ℕ) → IsEntry (λ i. (word_at nvm.now (frame_place frame + i)).durable) number entry
+        → result.items ≡ entry }
 {
     let mut entry = ArrayVec::new();
     for k in 0..durable_length(nvm, frame, number) {

@@ -16,7 +16,7 @@ use crate::{page, put};
 use pmem_model::Pmem;
 use rv_core::{Plan, extend, plan};
 use rv_table::decode;
-use sls_base::CORE_SLICE;
+use sls_base::{CORE_SLICE, HALTED, ILLEGAL_WORD, INSTRUCTION_BYTES, NO_ACCESS};
 
 /// The register that names a call.
 const CALL: usize = 17;
@@ -28,24 +28,16 @@ const HALT: u32 = 1;
 /// The number of the call that puts an entry.
 const PUT: u32 = 2;
 
-/// The cause of the call that stops the thread.
-const HALTED: u8 = 0;
-/// The cause of a word that is no instruction.
-const NO_INSTRUCTION: u8 = 1;
-/// The cause of an access past the page.
-const PAST_PAGE: u8 = 4;
-
-/// The bytes of an instruction.
-const INSTRUCTION_BYTES: u32 = 4;
-
 /// Does one tick, and tells whether there was a thread to run.
 pub fn tick(thread: &mut RunThread, put: &mut [u64; 4], nvm: &mut Pmem, accepted: &[u64; 4]) -> bool
     requires { AllHome nvm.old }
     ensures home { AllHome nvm.new }
     ensures rest { (i : ℕ) → IsOffPages i → word_at nvm.new i ≡ word_at nvm.old i }
     ensures counts { SameCounts nvm.old nvm.new }
-    ensures state { (s : State) (count : ℕ → ℕ) → Tells accepted.now count → RunsAs thread.old put.old (word_at nvm.old) count s
-        → (result ≡ not (is_stopped s.thread.status)) × RunsAs thread.new put.new (word_at nvm.new) count (ticked count s) }
+    ensures state { (s : State) (count : ℕ → ℕ) → Tells accepted.now count
+        → RunsAs thread.old put.old (word_at nvm.old) count s
+        → (result ≡ not (is_stopped s.thread.status))
+        × RunsAs thread.new put.new (word_at nvm.new) count (ticked count s) }
 {
     let slice = match thread.status {
         Status::Stopped(_) => return false,
@@ -62,7 +54,8 @@ fn step(thread: &mut RunThread, slice: u8, put: &mut [u64; 4], nvm: &mut Pmem, a
     ensures home { AllHome nvm.new }
     ensures rest { (i : ℕ) → IsOffPages i → word_at nvm.new i ≡ word_at nvm.old i }
     ensures counts { SameCounts nvm.old nvm.new }
-    ensures state { (s : State) (count : ℕ → ℕ) → Tells accepted.now count → slice ≤ 16 → RunsAs thread.old put.old (word_at nvm.old) count s
+    ensures state { (s : State) (count : ℕ → ℕ) → Tells accepted.now count → slice ≤ 16
+        → RunsAs thread.old put.old (word_at nvm.old) count s
         → RunsAs thread.new put.new (word_at nvm.new) count (sliced s slice (instruction count s)) }
 {
     thread.status = match obey(thread, put, nvm, accepted) {
@@ -83,15 +76,16 @@ fn obey(
     ensures home { AllHome nvm.new }
     ensures rest { (i : ℕ) → IsOffPages i → word_at nvm.new i ≡ word_at nvm.old i }
     ensures counts { SameCounts nvm.old nvm.new }
-    ensures state { (s : State) (count : ℕ → ℕ) → Tells accepted.now count → RunsAs thread.old put.old (word_at nvm.old) count s
+    ensures state { (s : State) (count : ℕ → ℕ) → Tells accepted.now count
+        → RunsAs thread.old put.old (word_at nvm.old) count s
         → Became result thread.new put.new (word_at nvm.new) count s (instruction count s) }
 {
     let pc = thread.regs.pc;
     if !page::covers(pc, INSTRUCTION_BYTES) {
-        return Some(PAST_PAGE);
+        return Some(NO_ACCESS);
     }
     let Some(instr) = decode(fetch(nvm, pc)) else {
-        return Some(NO_INSTRUCTION);
+        return Some(ILLEGAL_WORD);
     };
     let effect = plan(instr, &thread.regs);
     carry_out(effect, thread, put, nvm, accepted)
@@ -101,7 +95,8 @@ fn obey(
 fn fetch(nvm: &Pmem, pc: u32) -> u32
     requires covered { pc + 4 ≤ 4096 }
     requires home { AllHome nvm.now }
-    ensures { (byte : ℕ → ℕ) → IsPage (running_words (word_at nvm.now) 4) byte → pc % 4 ≡ 0 → result ≡ number_at byte pc 4 }
+    ensures { (byte : ℕ → ℕ) → IsPage (running_words (word_at nvm.now) 4) byte → pc % 4 ≡ 0
+        → result ≡ number_at byte pc 4 }
 {
     page::load(
         nvm,
@@ -123,7 +118,8 @@ fn carry_out(
     ensures home { AllHome nvm.new }
     ensures rest { (i : ℕ) → IsOffPages i → word_at nvm.new i ≡ word_at nvm.old i }
     ensures counts { SameCounts nvm.old nvm.new }
-    ensures state { (s : State) (count : ℕ → ℕ) → Tells accepted.now count → IsAligned effect → RunsAs thread.old put.old (word_at nvm.old) count s
+    ensures state { (s : State) (count : ℕ → ℕ) → Tells accepted.now count → IsAligned effect
+        → RunsAs thread.old put.old (word_at nvm.old) count s
         → Became result thread.new put.new (word_at nvm.new) count s (carried_out count s effect) }
 {
     match effect {
@@ -149,7 +145,8 @@ fn call(
     ensures home { AllHome nvm.new }
     ensures rest { (i : ℕ) → IsOffPages i → word_at nvm.new i ≡ word_at nvm.old i }
     ensures counts { SameCounts nvm.old nvm.new }
-    ensures state { (s : State) (count : ℕ → ℕ) → Tells accepted.now count → RunsAs thread.old put.old (word_at nvm.old) count s
+    ensures state { (s : State) (count : ℕ → ℕ) → Tells accepted.now count
+        → RunsAs thread.old put.old (word_at nvm.old) count s
         → Became result thread.new put.new (word_at nvm.new) count s (Plain.call count s) }
 {
     let answer = match thread.regs.x[CALL] {
@@ -191,7 +188,10 @@ fn size(op: u8) -> u32
 /// Sets a register and pc; a write to the first register is lost.
 fn set(thread: &mut RunThread, rd: u8, value: u32, pc: u32)
     requires { rd < 32 }
-    ensures { thread.new ≡ record { status = thread.old.status; regs = record { pc = pc; x = with_register thread.old.regs.x rd value } } }
+    ensures { thread.new ≡ record {
+      status = thread.old.status;
+      regs = record { pc = pc; x = with_register thread.old.regs.x rd value };
+    } }
 {
     if rd != 0 {
         thread.regs.x[rd as usize] = value;
@@ -208,7 +208,7 @@ fn load(thread: &mut RunThread, nvm: &Pmem, op: u8, rd: u8, at: u32) -> Option<u
 {
     let size = size(op);
     if !page::covers(at, size) {
-        return Some(PAST_PAGE);
+        return Some(NO_ACCESS);
     }
     let next = thread.regs.pc.wrapping_add(INSTRUCTION_BYTES);
     set(thread, rd, extend(op, page::load(nvm, at, size)), next);
@@ -227,7 +227,7 @@ fn store(thread: &mut RunThread, nvm: &mut Pmem, op: u8, at: u32, value: u32) ->
 {
     let size = size(op);
     if !page::covers(at, size) {
-        return Some(PAST_PAGE);
+        return Some(NO_ACCESS);
     }
     page::store(nvm, at, size, value);
     let next = thread.regs.pc.wrapping_add(INSTRUCTION_BYTES);

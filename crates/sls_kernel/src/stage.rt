@@ -4,13 +4,13 @@ ghost use Rattle.std.specs.Prelude.{◌≡◌, IsTrue};
 ghost use Rattle.sls_kernel.specs.Stages.{step_after, format_next, checkpoint_next, resumed_of, is_save_step};
 
 /// The pages of the state: the four rings and the program's page.
-pub const PAGES: u8 = 5;
+pub const STATE_PAGES: u8 = 5;
 
 /// The parts of an area: the pages and the thread's record.
 pub const PARTS: u8 = 6;
 
 /// The steps that copy the running state into an area and make it durable.
-#[derive(Clone, Copy, Debug, PartialEq, Eq)]
+#[derive(Clone, Copy)]
 pub enum SaveStep {
     /// Copy this page.
     Copy(u8),
@@ -23,7 +23,7 @@ pub enum SaveStep {
 
 /// The steps of formatting: the program is stored, the state is saved into the first area, and the format word comes
 /// last.
-#[derive(Clone, Copy, Debug, PartialEq, Eq)]
+#[derive(Clone, Copy)]
 pub enum FormatStep {
     Fill,
     Save(SaveStep),
@@ -34,7 +34,7 @@ pub enum FormatStep {
 
 /// The steps of a checkpoint: the state is saved into the area that isn't the committed one, and the version word comes
 /// last.
-#[derive(Clone, Copy, Debug, PartialEq, Eq)]
+#[derive(Clone, Copy)]
 pub enum CheckpointStep {
     Save(SaveStep),
     StoreVersion,
@@ -46,7 +46,7 @@ pub enum CheckpointStep {
     FenceAgain,
 }
 
-#[derive(Clone, Copy, Debug, PartialEq, Eq)]
+#[derive(Clone, Copy)]
 pub enum Stage {
     Format(FormatStep),
     /// Copy this page back.
@@ -64,7 +64,7 @@ impl SaveStep {
         ensures { result ≡ step_after self }
     {
         match self {
-            SaveStep::Copy(page) if page + 1 < PAGES => Some(SaveStep::Copy(page + 1)),
+            SaveStep::Copy(page) if page + 1 < STATE_PAGES => Some(SaveStep::Copy(page + 1)),
             SaveStep::Copy(_) => Some(SaveStep::Record),
             SaveStep::Record => Some(SaveStep::Flush(0)),
             SaveStep::Flush(part) if part + 1 < PARTS => Some(SaveStep::Flush(part + 1)),

@@ -2,10 +2,8 @@
 
 use rv_core::Regs;
 
-/// What the thread does: it stands in the run queue, runs with what is left of its slice, or has stopped with a cause
-/// (0 halt, 1 no instruction, 2 a jump target that isn't a multiple of 4, 3 a misaligned load or store, 4 an access past
-/// the page, 5 EBREAK).
-#[derive(Clone, Copy, Debug, PartialEq, Eq)]
+/// What the thread does: it stands in the run queue, runs with what is left of its slice, or has stopped with a cause.
+#[derive(Clone, Copy)]
 pub enum Status {
     Ready,
     Running(u8),
@@ -13,7 +11,7 @@ pub enum Status {
 }
 
 /// The thread: what it does, its pc and its registers.
-#[derive(Clone, Copy, Debug, PartialEq, Eq)]
+#[derive(Clone, Copy)]
 pub struct RunThread {
     pub status: Status,
     pub regs: Regs,

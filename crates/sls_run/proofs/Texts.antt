@@ -1,5 +1,5 @@
 -- What is read of a source is its text, or more of it than a job has.
-use Rattle.std.proofs.Common.{◌≡◌, inl, inr, ℕ, ◌<◌, ◌≤◌, List, length, take, Option, Some, None, IfSome, ⊎_elim, arith, sym, ap, refl, ◌∙◌, nat_lt, true}
+use Rattle.std.proofs.Common.{◌≡◌, ◌≢◌, ◌⊎◌, inl, inr, ℕ, ◌<◌, ◌≤◌, List, [], length, take, drop, take-append-drop, Option, Some, None, IfSome, is_some, ⊎_elim, arith, sym, ap, refl, ◌∙◌, nat_lt, true}
 use Rattle.std.proofs.lemmas.Bool.{cases_lt}
 use Rattle.std.proofs.lemmas.Bool.Decides.{nat_tests}
 use Rattle.std.proofs.lemmas.List.{take_all, length-take}
@@ -9,7 +9,9 @@ use Rattle.job_script.specs.declared.line.Line.{Line}
 use Rattle.job_script.specs.declared.fault.JobCause.TheVariants.{TooLong}
 use Rattle.job_script.specs.Grammar.{Good, Faulty, verdict}
 use Rattle.sls_run.specs.declared.status.Status.{Status}
-use Rattle.sls_run.specs.Job.{LeavesText, LeavesRun}
+use Rattle.sls_run.specs.declared.status.Status.TheVariants as status
+use Rattle.sls_run.specs.declared.report.Printed.{Printed}
+use Rattle.sls_run.specs.Job.{LeavesText, LeavesRun, LastLine, TakesAtMost}
 
 long_verdict : (text : List ℕ) → 65536 < length text → verdict text ≡ Faulty 0 TooLong
 unfolding verdict
@@ -40,3 +42,27 @@ leaves left left_after source_ended text faults faults_after old new came ended 
     | inr ran ↦ inr (inr (inr (record { lines = ran.0; read = record { text = text; is_text = says_same left text first; says = ran.1 }; at_end = (end (good_short text ran.0 ran.1)).0; met_end = (end (good_short text ran.0 ran.1)).1; run = ran.2 })))
   ]
 ]
+
+-- What is taken of a source.
+
+pub takes_none : (most : ℕ) (left : Option (List ℕ)) → TakesAtMost most left left
+takes_none most None = record { taken = []; few = omega arith; first = refl }
+takes_none most (Some all) = record { taken = []; few = omega arith; first = refl }
+
+pub takes_text : (left left_after : Option (List ℕ)) → is_some left_after ≡ is_some left → IfSome left (λ all. left_after ≡ Some (drop 65537 all)) → TakesAtMost 65537 left left_after
+takes_text None None told rest = takes_none 65537 None
+takes_text None (Some after) told rest = cc
+takes_text (Some all) left_after told rest = record {
+  taken = take 65537 all;
+  few = let e = length-take 65537 all in omega arith;
+  first = rw rest (ap Some (sym (take-append-drop 65537 all)));
+}
+
+-- a last line of another status than these two
+pub other_status : (wanted : Status) (last : Printed) (old new : Option (List ℕ)) (ended : Status) → LastLine wanted last old new ended → wanted ≢ status.Done → wanted ≢ status.BadJob → (ended ≡ status.Done) ⊎ (ended ≡ status.BadJob) → ⊥
+other_status wanted last old new status.Done is done bad either = done is.0
+other_status wanted last old new status.BadJob is done bad either = bad is.0
+other_status wanted last old new status.Usage is done bad either = elim either [ inl e ↦ cc | inr e ↦ cc ]
+other_status wanted last old new status.ReadFault is done bad either = elim either [ inl e ↦ cc | inr e ↦ cc ]
+other_status wanted last old new status.WriteFault is done bad either = elim either [ inl e ↦ cc | inr e ↦ cc ]
+other_status wanted last old new status.Memory is done bad either = elim either [ inl e ↦ cc | inr e ↦ cc ]

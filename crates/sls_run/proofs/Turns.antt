@@ -2,10 +2,10 @@
 use Rattle.std.proofs.Common.{◌≡◌, inl, inr, ◌<◌, nat_lt, true, false, arith, refl, ◌∙◌, sym}
 use Rattle.std.proofs.lemmas.Bool.Decides.{nat_tests}
 use Rattle.sls_base.specs.declared.limits.TheConstants.{LAST_VERSION}
-use Rattle.sls_kernel.specs.Shows.{ShowsOff, Stands, durable_words}
+use Rattle.sls_kernel.specs.Shows.{ShowsOff, StandsFor, durable_words}
 use Rattle.sls_kernel.specs.declared.machine.Machine.{Machine}
 use Rattle.sls_kernel.specs.declared.machine.Off.{Off}
-use Rattle.sls_kernel.specs.Plain.{World, tick, cut, accepted_count}
+use Rattle.sls_kernel.specs.Plain.{World, tick, cut}
 use Rattle.sls_kernel.specs.Side.{Mode, Formatting, Running, ModeGoes, ModeGoesInner, turned, mode}
 use Rattle.sls_kernel.specs.declared.answers.Did.{Did}
 use Rattle.sls_kernel.specs.declared.answers.Did.TheVariants as did
@@ -39,8 +39,8 @@ pub has_none : (w : World) → w.version ≡ LAST_VERSION → nat_lt w.version L
 has_none w h = grind (arith, nat_tests)
 
 -- a memory that was cut while the machine ran stands for the saved copy
-pub cut_stands : (m : Machine) (off : Off) (w : World) → mode m ≡ Running → ShowsOff off (cut w) → (durable_words off.nvm 0 ≡ 0 → mode m ≡ Formatting) → Stands (durable_words off.nvm) (accepted_count w) w.saved
-cut_stands m off w up shows unformatted = elim shows.words [ inl stands ↦ stands | inr early ↦ (let e = unformatted early.unformatted in cc) ]
+pub cut_stands : (m : Machine) (off : Off) (w : World) → mode m ≡ Running → ShowsOff off (cut w) → (durable_words off.nvm 0 ≡ 0 → mode m ≡ Formatting) → StandsFor (durable_words off.nvm) w
+cut_stands m off w up shows unformatted = elim shows.words [ inl stands ↦ record { version = shows.version; saved = stands } | inr early ↦ (let e = unformatted early.unformatted in cc) ]
 
 pub not_both : {m : Mode} → m ≡ Running → m ≡ Formatting → ⊥
 not_both {m} up formatting = let e : Running ≡ Formatting = sym up ∙ formatting in cc

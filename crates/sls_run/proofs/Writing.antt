@@ -3,8 +3,8 @@ use Rattle.std.proofs.Common.{Bool, true, false, if◌then◌else◌, Result, Ok
 use Rattle.std.specs.Io.KnownBytes.{append_known}
 use Rattle.pmem_model.specs.Memory as memory
 use Rattle.sls_base.specs.declared.entry.Entry.{Entry}
-use Rattle.sls_kernel.specs.Plain.{World, accept, offered, is_offered, accepted_count}
-use Rattle.sls_kernel.specs.Shows.{Shows, Stands, durable_words}
+use Rattle.sls_kernel.specs.Plain.{World, accept, offered, is_offered}
+use Rattle.sls_kernel.specs.Shows.{Shows, StandsFor, durable_words}
 use Rattle.sls_kernel.specs.declared.machine.Machine.{Machine}
 use Rattle.sls_run.specs.declared.lines.BreakCause.{BreakCause}
 use Rattle.sls_run.specs.declared.report.Printed.{Printed}
@@ -82,7 +82,7 @@ take_goes_on old mid new m n count left next channel w entry t e given shows wri
     }
 
 pub take_breaks : (cause : BreakCause) (old mid new : Option (List ℕ)) (nvm : memory.Memory) (m : Machine) (count left next channel : ℕ) (w : World) (entry : Entry) (t : Taking old mid m count left channel w) → left ≡ suc next → Some entry ≡ offered t.now channel
-    → PartWritten cause mid new (Out channel entry) → Stands (durable_words nvm) (accepted_count (accept t.now channel)) (accept t.now channel).saved → BreaksAt cause old new nvm (take_prints count channel w)
+    → PartWritten cause mid new (Out channel entry) → StandsFor (durable_words nvm) (accept t.now channel) → BreaksAt cause old new nvm (take_prints count channel w)
 take_breaks cause old mid new nvm m count left next channel w entry t e given part stands =
     let more = take_some next channel t.now entry given in
     let x : Printed × World = (Out channel entry, accept t.now channel) in
@@ -106,7 +106,7 @@ dry_ran old mid new m n count left next channel w t e given shows written =
     }
 
 pub dry_breaks : (cause : BreakCause) (old mid new : Option (List ℕ)) (nvm : memory.Memory) (m : Machine) (count left next channel : ℕ) (w : World) (t : Taking old mid m count left channel w) → left ≡ suc next → None ≡ offered t.now channel
-    → PartWritten cause mid new (Dry channel) → Stands (durable_words nvm) (accepted_count t.now) t.now.saved → BreaksAt cause old new nvm (take_prints count channel w)
+    → PartWritten cause mid new (Dry channel) → StandsFor (durable_words nvm) t.now → BreaksAt cause old new nvm (take_prints count channel w)
 dry_breaks cause old mid new nvm m count left next channel w t e given part stands =
     let none = take_none next channel t.now given in
     record {
@@ -148,7 +148,7 @@ pub accept_none : (w : World) (channel : ℕ) → None ≡ offered w channel →
 accept_none w channel e = accept_of (is_offered w channel) w _ _ e
 
 -- the one line of what was to be printed wasn't
-pub one_breaks : (cause : BreakCause) (old new : Option (List ℕ)) (nvm : memory.Memory) (line : Printed) (w : World) → PartWritten cause old new line → Stands (durable_words nvm) (accepted_count w) w.saved → BreaksAt cause old new nvm ((line, w) ∷ [])
+pub one_breaks : (cause : BreakCause) (old new : Option (List ℕ)) (nvm : memory.Memory) (line : Printed) (w : World) → PartWritten cause old new line → StandsFor (durable_words nvm) w → BreaksAt cause old new nvm ((line, w) ∷ [])
 one_breaks cause old new nvm line w part stands = record {
   before = [];
   at = (line, w);

@@ -4,8 +4,8 @@ use Rattle.std.specs.Io.KnownBytes.{append_known}
 use Rattle.sls_io.specs.Sink.{AppendsPrefix}
 use Rattle.sls_io.specs.declared.sink.SinkError.TheVariants.{Failed, Memory}
 use Rattle.pmem_model.specs.Memory as memory
-use Rattle.sls_kernel.specs.Plain.{World, commit, accepted_count}
-use Rattle.sls_kernel.specs.Shows.{Shows, Stands, durable_words}
+use Rattle.sls_kernel.specs.Plain.{World, commit}
+use Rattle.sls_kernel.specs.Shows.{Shows, StandsFor, durable_words}
 use Rattle.sls_kernel.specs.declared.machine.Machine.{Machine}
 use Rattle.job_script.specs.declared.line.Line.{Line}
 use Rattle.job_script.specs.declared.line.Line.TheVariants as job
@@ -46,15 +46,18 @@ PartWritten NotLit old new line = (version : ℕ) × (line ≡ Up version) × (n
 
 -- The run broke at a line that it was to print: the lines before it were written, and at most a part of it; and the
 -- durable words stand for the saved copy of the world at that line.
-pub record BreaksAt (cause : BreakCause) (old new : Option (List ℕ)) (nvm : memory.Memory) (prints : List (Printed × World)) : Type 0 where
+pub record BreaksAt
+    (cause : BreakCause) (old new : Option (List ℕ)) (nvm : memory.Memory) (prints : List (Printed × World))
+    : Type 0 where
   pub before : List (Printed × World)
   pub at : Printed × World
   pub rest : List (Printed × World)
   pub split : prints ≡ before ++ at ∷ rest
   pub written : PartWritten cause (append_known old (text_of before)) new at.0
-  pub stands : Stands (durable_words nvm) (accepted_count at.1) at.1.saved
+  pub stands : StandsFor (durable_words nvm) at.1
 
 -- All of these lines were written, and the machine shows the world behind them.
-pub record Ran (old new : Option (List ℕ)) (machine : Machine) (prints : List (Printed × World)) (behind : World) : Type 0 where
+pub record Ran
+    (old new : Option (List ℕ)) (machine : Machine) (prints : List (Printed × World)) (behind : World) : Type 0 where
   pub written : new ≡ append_known old (text_of prints)
   pub shows : Shows machine behind

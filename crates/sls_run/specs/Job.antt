@@ -1,12 +1,13 @@
 -- What a run of a job leaves, by the status that it ends with.
-use Rattle.std.specs.Prelude.{◌≡◌, ◌⊎◌, ℕ, List, [], ◌∷◌, Option, codes, string_bytes, String, IfSome}
-use Rattle.std.specs.Io.KnownBytes.{append_known, IsAtEnd}
+use Rattle.std.specs.Prelude.{◌≡◌, ◌⊎◌, ◌≤◌, ℕ, length, List, [], ◌∷◌, Option, codes, string_bytes, String, IfSome}
+use Rattle.std.specs.Io.KnownBytes.{append_known, prepend_known, IsAtEnd}
 use Rattle.pmem_model.specs.Memory as memory
 use Rattle.sls_io.specs.Faults.{Rose}
 use Rattle.sls_io.specs.Sink.{AppendsPrefix}
 use Rattle.sls_io.specs.declared.sink.SinkError.TheVariants as error
-use Rattle.sls_kernel.specs.Plain.{World, accepted_count, one_more}
-use Rattle.sls_kernel.specs.Shows.{Stands, durable_words}
+use Rattle.sls_base.specs.Counts.{one_more}
+use Rattle.sls_kernel.specs.Plain.{World}
+use Rattle.sls_kernel.specs.Shows.{StandsFor, durable_words}
 use Rattle.job_script.specs.declared.line.Line.{Line}
 use Rattle.job_script.specs.declared.fault.JobCause.{JobCause}
 use Rattle.job_script.specs.Grammar.{Verdict, Good, Faulty, verdict}
@@ -31,7 +32,7 @@ prints lines = all_prints lines (first_of (words_of lines))
 -- its commits and its cuts, and the last cut.
 pub record RunsWhole (lines : List Line) (old new : Option (List ℕ)) (nvm : memory.Memory) : Type 0 where
   pub report_is : new ≡ append_known old (report lines (words_of lines))
-  pub stands : Stands (durable_words nvm) (accepted_count (end_of lines)) (end_of lines).saved
+  pub stands : StandsFor (durable_words nvm) (end_of lines)
   pub commits : nvm.commits ≡ (end_of lines).commits
   pub cuts : nvm.cuts ≡ one_more (end_of lines).cuts
 
@@ -39,27 +40,33 @@ pub record RunsWhole (lines : List Line) (old new : Option (List ℕ)) (nvm : me
 -- no memory for it. The line `memory` too is missing only there.
 abbrev pub LastLine : Status → Printed → Option (List ℕ) → Option (List ℕ) → Status → Type 0
 LastLine wanted last old new status.WriteFault = AppendsPrefix old new (line_text last)
-LastLine wanted last old new status.Memory = SinkHasNoMemory old new ⊎ (wanted ≡ status.Memory) × (new ≡ append_known old (line_text last))
+LastLine wanted last old new status.Memory =
+    SinkHasNoMemory old new ⊎ (wanted ≡ status.Memory) × (new ≡ append_known old (line_text last))
 LastLine wanted last old new status.Done = (wanted ≡ status.Done) × (new ≡ append_known old (line_text last))
 LastLine wanted last old new status.Usage = (wanted ≡ status.Usage) × (new ≡ append_known old (line_text last))
 LastLine wanted last old new status.BadJob = (wanted ≡ status.BadJob) × (new ≡ append_known old (line_text last))
 LastLine wanted last old new status.ReadFault = (wanted ≡ status.ReadFault) × (new ≡ append_known old (line_text last))
 
 -- the run broke where there was no memory to light the machine again, and the line `memory` follows
-pub record BreaksInMemory (lines : List Line) (old new : Option (List ℕ)) (nvm : memory.Memory) (ended : Status) : Type 0 where
+pub record BreaksInMemory
+    (lines : List Line) (old new : Option (List ℕ)) (nvm : memory.Memory) (ended : Status) : Type 0 where
   pub between : Option (List ℕ)
   pub broke : BreaksAt cause.NotLit old between nvm (prints lines)
   pub last : LastLine status.Memory line.Memory between new ended
 
--- What a run of a job's lines leaves on a memory that came as it was made. Where a line of the report wasn't written, by
--- a fault or since the sink has no memory for it, nothing follows. Where there was no memory to make the machine or to
--- light it again, the line `memory` follows.
-abbrev pub IsRun : List Line → Option (List ℕ) → Option (List ℕ) → memory.Memory → Status → memory.Memory → Type 0
+-- What a run of a job's lines leaves on a memory that came as it was made. Where a line of the report wasn't written,
+-- by a fault or since the sink has no memory for it, nothing follows. Where there was no memory to make the machine or
+-- to light it again, the line `memory` follows.
+abbrev pub IsRun : List Line → (old new : Option (List ℕ)) → memory.Memory → Status → memory.Memory → Type 0
 IsRun lines old new came status.Done nvm = RunsWhole lines old new nvm
 IsRun lines old new came status.WriteFault nvm =
-    BreaksAt (cause.NotWritten error.Failed) old new nvm (prints lines) ⊎ (BreaksInMemory lines old new nvm status.WriteFault ⊎ (nvm ≡ came) × LastLine status.Memory line.Memory old new status.WriteFault)
+    BreaksAt (cause.NotWritten error.Failed) old new nvm (prints lines)
+    ⊎ (BreaksInMemory lines old new nvm status.WriteFault
+    ⊎ (nvm ≡ came) × LastLine status.Memory line.Memory old new status.WriteFault)
 IsRun lines old new came status.Memory nvm =
-    BreaksAt (cause.NotWritten error.Memory) old new nvm (prints lines) ⊎ (BreaksInMemory lines old new nvm status.Memory ⊎ (nvm ≡ came) × LastLine status.Memory line.Memory old new status.Memory)
+    BreaksAt (cause.NotWritten error.Memory) old new nvm (prints lines)
+    ⊎ (BreaksInMemory lines old new nvm status.Memory
+    ⊎ (nvm ≡ came) × LastLine status.Memory line.Memory old new status.Memory)
 IsRun lines old new came status.Usage nvm = ⊥
 IsRun lines old new came status.BadJob nvm = ⊥
 IsRun lines old new came status.ReadFault nvm = ⊥
@@ -71,9 +78,17 @@ IsRunWords (word ∷ []) = string_bytes word ≡ codes "run"
 IsRunWords (word ∷ (more ∷ rest)) = ⊥
 
 -- Nothing was run: the status's line is the last, and the memory is as it came.
-pub record EndsAt (wanted : Status) (last : Printed) (old new : Option (List ℕ)) (came nvm : memory.Memory) (ended : Status) : Type 0 where
+pub record EndsAt
+    (wanted : Status) (last : Printed) (old new : Option (List ℕ)) (came nvm : memory.Memory) (ended : Status)
+    : Type 0 where
   pub last_line : LastLine wanted last old new ended
   pub memory_stays : nvm ≡ came
+
+-- Of what a source tells some first bytes were taken, at most so many.
+pub record TakesAtMost (most : ℕ) (left left_after : Option (List ℕ)) : Type 0 where
+  pub taken : List ℕ
+  pub few : length taken ≤ most
+  pub first : left ≡ prepend_known taken left_after
 
 -- A text was read that says this, which is what the source's text says where that is told.
 pub record IsRead (left : Option (List ℕ)) (said : Verdict) : Type 0 where
@@ -82,7 +97,9 @@ pub record IsRead (left : Option (List ℕ)) (said : Verdict) : Type 0 where
   pub says : verdict text ≡ said
 
 -- The job was read to its end, told or not, and was run.
-pub record RanJob (left left_after : Option (List ℕ)) (source_ended : Type 0) (old new : Option (List ℕ)) (came : memory.Memory) (ended : Status) (nvm : memory.Memory) : Type 0 where
+pub record RanJob
+    (left left_after : Option (List ℕ)) (source_ended : Type 0) (old new : Option (List ℕ))
+    (came : memory.Memory) (ended : Status) (nvm : memory.Memory) : Type 0 where
   pub lines : List Line
   pub read : IsRead left (Good lines)
   pub at_end : IsAtEnd left_after
@@ -90,19 +107,23 @@ pub record RanJob (left left_after : Option (List ℕ)) (source_ended : Type 0) 
   pub run : IsRun lines old new came ended nvm
 
 -- The job is at fault, and the last line tells where and why.
-pub record RefusedJob (left old new : Option (List ℕ)) (came : memory.Memory) (ended : Status) (nvm : memory.Memory) : Type 0 where
+pub record RefusedJob
+    (left old new : Option (List ℕ)) (came : memory.Memory) (ended : Status) (nvm : memory.Memory) : Type 0 where
   pub at : ℕ
   pub cause : JobCause
   pub read : IsRead left (Faulty at cause)
   pub ends : EndsAt status.BadJob (line.BadJob at cause) old new came nvm ended
 
 -- A read of the job failed.
-pub record FailedRead (faults faults_after : ℕ) (old new : Option (List ℕ)) (came : memory.Memory) (ended : Status) (nvm : memory.Memory) : Type 0 where
+pub record FailedRead
+    (faults faults_after : ℕ) (old new : Option (List ℕ))
+    (came : memory.Memory) (ended : Status) (nvm : memory.Memory) : Type 0 where
   pub rose : Rose faults faults_after
   pub ends : EndsAt status.ReadFault line.ReadFault old new came nvm ended
 
 -- What a run leaves: a read of the job failed, or there was no memory to read it, or it is at fault, or it was run.
-abbrev pub LeavesRun : (left left_after : Option (List ℕ)) → Type 0 → ℕ → ℕ → Option (List ℕ) → Option (List ℕ) → memory.Memory → Status → memory.Memory → Type 0
+abbrev pub LeavesRun : (left left_after : Option (List ℕ)) → Type 0 → (faults faults_after : ℕ)
+    → (old new : Option (List ℕ)) → memory.Memory → Status → memory.Memory → Type 0
 LeavesRun left left_after source_ended faults faults_after old new came ended nvm =
     FailedRead faults faults_after old new came ended nvm
     ⊎ (EndsAt status.Memory line.Memory old new came nvm ended
@@ -110,10 +131,11 @@ LeavesRun left left_after source_ended faults faults_after old new came ended nv
     ⊎ RanJob left left_after source_ended old new came ended nvm))
 
 -- What a run of a text leaves: there was no memory to read it, or it is at fault, or it is a job, which was run.
-abbrev pub LeavesText : List ℕ → Option (List ℕ) → Option (List ℕ) → memory.Memory → Status → memory.Memory → Type 0
+abbrev pub LeavesText : List ℕ → (old new : Option (List ℕ)) → memory.Memory → Status → memory.Memory → Type 0
 LeavesText text old new came ended nvm =
     EndsAt status.Memory line.Memory old new came nvm ended
-    ⊎ (((at : ℕ) × (cause : JobCause) × (verdict text ≡ Faulty at cause) × EndsAt status.BadJob (line.BadJob at cause) old new came nvm ended)
+    ⊎ (((at : ℕ) × (cause : JobCause) × (verdict text ≡ Faulty at cause)
+    × EndsAt status.BadJob (line.BadJob at cause) old new came nvm ended)
     ⊎ ((lines : List Line) × (verdict text ≡ Good lines) × IsRun lines old new came ended nvm))
 
 -- The text is at fault, and what was written tells the line and the cause of its first fault.

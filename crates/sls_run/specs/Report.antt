@@ -28,7 +28,9 @@ abbrev pub line_text : Printed → List ℕ
 line_text (Commit version) = codes "commit " ++ decimal version ++ codes "\n"
 line_text (Spent version) = codes "spent " ++ decimal version ++ codes "\n"
 line_text (Up version) = codes "up " ++ decimal version ++ codes "\n"
-line_text (Out channel entry) = codes "out " ++ decimal channel ++ codes " " ++ decimal entry.number ++ codes " " ++ encode_lower entry.bytes.items ++ codes "\n"
+line_text (Out channel entry) =
+    codes "out " ++ decimal channel ++ codes " " ++ decimal entry.number ++ codes " "
+    ++ encode_lower entry.bytes.items ++ codes "\n"
 line_text (Dry channel) = codes "dry " ++ decimal channel ++ codes "\n"
 line_text Done = codes "done\n"
 line_text Usage = codes "usage\n"
@@ -49,7 +51,8 @@ told channel (Some entry) w next more = (Out channel entry, next) ∷ more
 
 abbrev pub take_prints : ℕ → ℕ → World → List (Printed × World)
 take_prints zero channel w = []
-take_prints (suc n) channel w = told channel (offered w channel) w (accept w channel) (take_prints n channel (accept w channel))
+take_prints (suc n) channel w =
+    told channel (offered w channel) w (accept w channel) (take_prints n channel (accept w channel))
 
 abbrev pub went : Option Entry → World → World → World
 went None w more = w

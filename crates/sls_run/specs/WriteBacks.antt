@@ -1,5 +1,5 @@
--- The words that are written back before a power cut. The dirty words take one draw each, in rising order, and a word is
--- written back where bit 33 of its draw is 1.
+-- The words that are written back before a power cut. The dirty words take one draw each, in rising order, and a word
+-- is written back where bit 33 of its draw is 1.
 use Rattle.std.specs.Prelude.{◌≡◌, ℕ, zero, suc, ◌<◌, Bool, true, false, ◌&&◌, ◌==◌, if◌then◌else◌}
 use Rattle.std.specs.Int.{bit_at}
 use Rattle.sls_base.specs.Lcg.{next_state}
@@ -33,4 +33,6 @@ is_chosen seed f i = is_dirty (f i) && chooses (state_after (suc (dirty_below f 
 
 -- a machine's words afterwards
 abbrev pub WritesBack : ℕ → Machine → Machine → Type 0
-WritesBack seed old new = (i : ℕ) → i < WORDS → word_at (memory_of new) i ≡ writes_back (is_chosen seed (word_at (memory_of old))) (word_at (memory_of old)) i
+WritesBack seed old new =
+    (i : ℕ) → i < WORDS
+    → word_at (memory_of new) i ≡ writes_back (is_chosen seed (word_at (memory_of old))) (word_at (memory_of old)) i

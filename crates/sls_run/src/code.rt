@@ -6,14 +6,11 @@ ghost use Rattle.job_script.specs.Job.{words_of};
 ghost use Rattle.sls_run.specs.Report.{code_bytes, code_page};
 
 use job_script::Line;
-use sls_base::{Image, Program, RegionSpec};
+use sls_base::{Image, Program, REGION_RIGHTS, RegionSpec};
 use std::alloc::{AllocError, Global};
 
 /// The channels of a program of code words: all outputs, the input and the root group.
 const ALL_CHANNELS: u8 = 63;
-
-/// The rights of its page: read, write and execute.
-const ALL_RIGHTS: u8 = 7;
 
 /// The bytes of the job's code words, in order, each word with its lowest byte first.
 fn code_of(alloc: Global, lines: &[Line]) -> Result<Vec<u8>, AllocError>
@@ -28,7 +25,8 @@ fn code_of(alloc: Global, lines: &[Line]) -> Result<Vec<u8>, AllocError>
     Ok(code)
 }
 
-/// The image of a program of these code bytes: one thread that begins at address 0, and one page there.
+/// The image of a program of these code bytes: one thread that begins at address 0, and one page there, to read, to write
+/// and to execute.
 fn image_of(alloc: Global, content: Vec<u8>) -> Result<Image, AllocError>
     requires { length content.items ≤ 4096 }
     ensures of_code { IfOk result IsOfCode }
@@ -38,7 +36,7 @@ fn image_of(alloc: Global, content: Vec<u8>) -> Result<Image, AllocError>
     regions.push(RegionSpec {
         base: 0,
         pages: 1,
-        rights: ALL_RIGHTS,
+        rights: REGION_RIGHTS,
         content,
     })?;
     let mut programs = Vec::new(alloc);

@@ -2,9 +2,9 @@
 
 ghost use Rattle.std.specs.Prelude.{◌≡◌, ◌⊎◌, ◌<◌, ◌≤◌, ℕ, IfOk, IfErr, IsTrue};
 ghost use Rattle.pmem_model.specs.Memory.{AllHome};
-ghost use Rattle.sls_kernel.specs.Plain.{World, cut, commit, accepted_count};
+ghost use Rattle.sls_kernel.specs.Plain.{World, cut, commit};
 ghost use Rattle.sls_kernel.specs.Side.{Formatting, Recovering, Running, BeforeCommit, mode, left};
-ghost use Rattle.sls_kernel.specs.Shows.{Shows, Stands, durable_words};
+ghost use Rattle.sls_kernel.specs.Shows.{Shows, StandsFor, durable_words};
 ghost use Rattle.sls_kernel.specs.Program.{IsOfCode};
 ghost use Rattle.sls_run.specs.Report.{ticks, checkpoint_line, checkpointed};
 ghost use Rattle.sls_run.specs.Ends.{Keeps, Commits};
@@ -59,7 +59,8 @@ fn finish(machine: &mut Machine)
 pub fn checkpoint(alloc: Global, machine: &mut Machine) -> Printed
     requires { mode machine.old ≡ Running }
     ensures up { mode machine.new ≡ Running }
-    ensures shows { (w : World) → Shows machine.old w → (result ≡ checkpoint_line w) × Shows machine.new (checkpointed w) }
+    ensures shows { (w : World) → Shows machine.old w
+        → (result ≡ checkpoint_line w) × Shows machine.new (checkpointed w) }
 {
     match machine.ask(alloc) {
         Asked::Started => {
@@ -102,7 +103,7 @@ pub fn restart(alloc: Global, image: &Image, machine: Machine) -> Result<Machine
     requires image { IsOfCode image.now }
     ensures up { IfOk result (λ new. mode new ≡ Running) }
     ensures shows { IfOk result (λ new. (w : World) → Shows machine w → Shows new (cut w)) }
-    ensures refused { IfErr result (λ nvm. (w : World) → Shows machine w → Stands (durable_words nvm) (accepted_count w) w.saved) }
+    ensures refused { IfErr result (λ nvm. (w : World) → Shows machine w → StandsFor (durable_words nvm) w) }
     ensures home { IfErr result AllHome }
 {
     match machine.cut().light(alloc, image, 1) {

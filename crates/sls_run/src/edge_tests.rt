@@ -1,6 +1,6 @@
-//! Lines that can't be written, and words that can't be read.
+//! Lines that can't be written, want of memory, and the program's words.
 
-use crate::run_job::run_job;
+use crate::run_job::{no_memory, run_job};
 use crate::status::Status;
 use crate::words_of;
 use pmem_model::Pmem;
@@ -10,7 +10,13 @@ use std::io::{Error, ErrorKind};
 use std::test::Fail;
 
 /// A job whose report has three lines.
-const JOB: &[u8] = b"cores 1\ncode 0000006F\ncheckpoint\ncheckpoint\nend\n";
+const JOB: &[u8] = b"cores 1\ncode 0000006F\ncheckpoint\ncut 0\nend\n";
+
+/// The report of that job.
+const REPORT: &[u8] = b"commit 1\nup 1\ndone\n";
+
+/// The line of a run that finds no memory.
+const MEMORY: &[u8] = b"memory\n";
 
 /// A sink that answers the write with one number, from 1, that it has no memory, and counts the writes.
 #[derive(Drop)]
@@ -46,7 +52,14 @@ impl Sink for NoMemoryAt {
     }
 }
 
-/// Runs a job with these words and this sink.
+/// The words of a run.
+fn run_words(alloc: Global) -> Result<Vec<String>, Fail> {
+    let mut words = Vec::new(alloc);
+    words.push(String::from_str(alloc, "run")?)?;
+    Ok(words)
+}
+
+/// Runs the job with these words and this sink.
 fn run<O: Sink>(alloc: Global, words: &[String], out: &mut O) -> Result<Status, Fail> {
     let mut job = MemSource::failing(Vec::from_slice(alloc, JOB)?, Vec::new(alloc));
     let mut shelf = MemShelf::new(alloc);
@@ -56,8 +69,7 @@ fn run<O: Sink>(alloc: Global, words: &[String], out: &mut O) -> Result<Status, 
 
 #[test]
 fn nothing_follows_a_line_that_the_sink_has_no_memory_for(rt: HostRuntime) -> Result<(), Fail> {
-    let mut words = Vec::new(rt.alloc());
-    words.push(String::from_str(rt.alloc(), "run")?)?;
+    let words = run_words(rt.alloc())?;
     let mut out = NoMemoryAt::new(rt.alloc(), 2);
     let status = run(rt.alloc(), words.as_slice(), &mut out)?;
     assert!(rt; status == Status::Memory);
@@ -78,6 +90,48 @@ fn nothing_follows_the_line_of_a_status(rt: HostRuntime) -> Result<(), Fail> {
     assert!(rt; status == Status::Memory);
     assert!(rt; full.sink.bytes.is_empty());
     assert_eq!(rt; full.writes, 1);
+    Ok(())
+}
+
+#[test]
+fn want_of_memory_is_told(rt: HostRuntime) -> Result<(), Fail> {
+    let mut out = MemSink::new(rt.alloc());
+    let status = no_memory(&mut out);
+    assert!(rt; status == Status::Memory);
+    assert_eq!(rt; out.bytes.as_slice(), MEMORY);
+    Ok(())
+}
+
+/// Where an allocation fails, the last line says so, and the lines before it are the first of the report. The sink has its
+/// room before.
+#[test]
+fn a_run_ends_with_its_report_or_for_want_of_memory(rt: HostRuntime) -> Result<(), Fail> {
+    let words = run_words(rt.alloc())?;
+    let mut out = MemSink::new(rt.alloc());
+    out.bytes = Vec::with_capacity(rt.alloc(), REPORT.len() + MEMORY.len())?;
+    let status = run(rt.alloc(), words.as_slice(), &mut out)?;
+    if status == Status::Done {
+        assert_eq!(rt; out.bytes.as_slice(), REPORT);
+    } else {
+        assert!(rt; status == Status::Memory);
+        let written = out.bytes.as_slice().strip_suffix(MEMORY);
+        assert!(rt; written.is_some_and(|lines| REPORT.starts_with(lines)));
+    }
+    Ok(())
+}
+
+#[test]
+fn the_words_behind_the_programs_name_are_given_in_order(rt: HostRuntime) -> Result<(), Fail> {
+    let mut all = Vec::new(rt.alloc());
+    for word in ["sls_run", "run", "twice"] {
+        all.push(String::from_str(rt.alloc(), word)?)?;
+    }
+    let words = words_of(rt.alloc(), Ok(all.into_iter()))?;
+    let are_these = match words.as_slice() {
+        [first, second] => first.as_str() == "run" && second.as_str() == "twice",
+        _ => false,
+    };
+    assert!(rt; are_these);
     Ok(())
 }
 

@@ -4,10 +4,10 @@ ghost use Rattle.std.specs.Prelude.{◌≡◌, ◌≤◌, ◌<◌, ℕ, IfOk, If
 ghost use Rattle.std.specs.Io.KnownBytes.{append_known};
 ghost use Rattle.pmem_model.specs.Memory.{AllHome};
 ghost use Rattle.sls_io.specs.Faults.{Rose};
-ghost use Rattle.sls_kernel.specs.Plain.{World, accepted_count};
+ghost use Rattle.sls_kernel.specs.Plain.{World};
 ghost use Rattle.sls_kernel.specs.Program.{IsOfCode};
 ghost use Rattle.sls_kernel.specs.Side.{Running, mode};
-ghost use Rattle.sls_kernel.specs.Shows.{Shows, Stands, durable_words};
+ghost use Rattle.sls_kernel.specs.Shows.{Shows, StandsFor, durable_words};
 ghost use Rattle.std.specs.List.{AllByRecursion};
 ghost use Rattle.sls_run.specs.Ends.{HasChannels};
 ghost use Rattle.sls_run.specs.Report.{line_text, prints_of, after, all_prints, world_after, take_prints, taken};
@@ -45,8 +45,10 @@ fn say<O: Sink>(out: &mut O, line: Printed, machine: Machine) -> Result<Machine,
     ensures same { IfOk result (λ new. new ≡ machine) }
     ensures written { OnOk result (O.written out.new ≡ append_known (O.written out.old) (line_text line)) }
     ensures part { IfErr result (λ broken. PartWritten broken.cause (O.written out.old) (O.written out.new) line) }
-    ensures stands { IfErr result (λ broken. (w : World) → Shows machine w → Stands (durable_words broken.nvm) (accepted_count w) w.saved) }
-    ensures cause { IfErr result (λ broken. broken.cause ≡ BreakCause.NotWritten SinkError.Failed → Rose (O.faults out.old) (O.faults out.new)) }
+    ensures stands { IfErr result (λ broken. (w : World) → Shows machine w
+        → StandsFor (durable_words broken.nvm) w) }
+    ensures cause { IfErr result (λ broken. broken.cause ≡ BreakCause.NotWritten SinkError.Failed
+        → Rose (O.faults out.old) (O.faults out.new)) }
     ensures told { is_some (O.written out.new) ≡ is_some (O.written out.old) }
     ensures never_falls { O.faults out.old ≤ O.faults out.new }
 {
@@ -73,7 +75,8 @@ fn take<O: Sink>(
         → Ran (O.written out.old) (O.written out.new) new (take_prints count channel w) (taken count channel w)) }
     ensures broke { IfErr result (λ broken. (w : World) → Shows machine w
         → BreaksAt broken.cause (O.written out.old) (O.written out.new) broken.nvm (take_prints count channel w)) }
-    ensures cause { IfErr result (λ broken. broken.cause ≡ BreakCause.NotWritten SinkError.Failed → Rose (O.faults out.old) (O.faults out.new)) }
+    ensures cause { IfErr result (λ broken. broken.cause ≡ BreakCause.NotWritten SinkError.Failed
+        → Rose (O.faults out.old) (O.faults out.new)) }
     ensures told { is_some (O.written out.new) ≡ is_some (O.written out.old) }
     ensures never_falls { O.faults out.old ≤ O.faults out.new }
 {
@@ -105,7 +108,8 @@ fn run_line<O: Sink>(
         → Ran (O.written out.old) (O.written out.new) new (prints_of line w) (after line w)) }
     ensures broke { IfErr result (λ broken. (w : World) → Shows machine w
         → BreaksAt broken.cause (O.written out.old) (O.written out.new) broken.nvm (prints_of line w)) }
-    ensures cause { IfErr result (λ broken. broken.cause ≡ BreakCause.NotWritten SinkError.Failed → Rose (O.faults out.old) (O.faults out.new)) }
+    ensures cause { IfErr result (λ broken. broken.cause ≡ BreakCause.NotWritten SinkError.Failed
+        → Rose (O.faults out.old) (O.faults out.new)) }
     ensures told { is_some (O.written out.new) ≡ is_some (O.written out.old) }
     ensures never_falls { O.faults out.old ≤ O.faults out.new }
 {
@@ -153,7 +157,8 @@ pub fn run_lines<O: Sink>(
         → Ran (O.written out.old) (O.written out.new) new (all_prints lines.now w) (world_after lines.now w)) }
     ensures broke { IfErr result (λ broken. (w : World) → Shows machine w
         → BreaksAt broken.cause (O.written out.old) (O.written out.new) broken.nvm (all_prints lines.now w)) }
-    ensures cause { IfErr result (λ broken. broken.cause ≡ BreakCause.NotWritten SinkError.Failed → Rose (O.faults out.old) (O.faults out.new)) }
+    ensures cause { IfErr result (λ broken. broken.cause ≡ BreakCause.NotWritten SinkError.Failed
+        → Rose (O.faults out.old) (O.faults out.new)) }
     ensures told { is_some (O.written out.new) ≡ is_some (O.written out.old) }
     ensures never_falls { O.faults out.old ≤ O.faults out.new }
 {

@@ -1,7 +1,8 @@
 //! Runs jobs on a machine with persistent memory, and reports as the plain machine would.
 #![tactic(auto)]
 
-ghost use Rattle.std.specs.Prelude.{◌≡◌, ◌↔◌, [], IsOk, IfOk, IfErr, OnErr};
+ghost use Rattle.std.specs.Prelude.{◌≡◌, ◌↔◌, [], drop, IsOk, IfOk, IfErr, OnErr};
+ghost use Rattle.std.specs.Vec.Iter.{into_iter_items};
 ghost use Rattle.std.specs.IoError.{error_kind};
 
 mod code;
@@ -9,17 +10,13 @@ mod drive;
 #[cfg(test)]
 mod edge_tests;
 mod lines;
-#[cfg(test)]
-mod plain;
 mod report;
 mod run_job;
 mod status;
 #[cfg(test)]
 mod tests;
 
-use crate::report::Printed;
-use crate::run_job::{end, run_job};
-use crate::status::Status;
+use crate::run_job::{no_memory, run_job};
 use pmem_model::Pmem;
 use sls_io::{MemShelf, StdSink, StdSource};
 use std::alloc::{AllocError, Global};
@@ -27,8 +24,9 @@ use std::env::{self, Args};
 use std::io::{self, ErrorKind};
 use std::process::ExitCode;
 
-/// The words behind the program's name, and none where one is no text.
+/// The words behind the first, which is the program's name, in order; and none where one is no text.
 fn words_of(alloc: Global, args: io::Result<Args>) -> Result<Vec<String>, AllocError>
+    ensures words { IfOk args (λ all. IfOk result (λ words. words.items ≡ drop 1 (into_iter_items all))) }
     ensures no_text { IfErr args (λ error. IsOk result ↔ (error_kind error ≡ ErrorKind.InvalidData)) }
     ensures none { OnErr args (IfOk result (λ words. words.items ≡ [])) }
 {
@@ -47,7 +45,7 @@ fn main(rt: HostRuntime) -> ExitCode {
     let mut out = StdSink::new(rt.stdout());
     let mut shelf = MemShelf::new(alloc);
     let (Ok(words), Ok(nvm)) = (words_of(alloc, env::args(&rt)), Pmem::new(alloc)) else {
-        return end(&mut out, Status::Memory, Printed::Memory).exit_code();
+        return no_memory(&mut out).exit_code();
     };
     let (status, _) = run_job(alloc, &words, &mut job, &mut out, &mut shelf, nvm);
     status.exit_code()

@@ -113,7 +113,8 @@ fn numbered(word: &[u8], number: u64) -> Text
 /// The line of an entry that the device accepted: its channel, its number, and its bytes in hexadecimal.
 fn out_text(channel: u8, entry: &Entry) -> Text
     ensures { result.items
-        ≡ codes "out " ++ decimal channel ++ codes " " ++ decimal entry.now.number ++ codes " " ++ encode_lower entry.now.bytes.items ++ codes "\n" }
+        ≡ codes "out " ++ decimal channel ++ codes " " ++ decimal entry.now.number ++ codes " "
+        ++ encode_lower entry.now.bytes.items ++ codes "\n" }
 {
     let mut buffer = Buffer::new();
     let mut text = Text::new();
@@ -162,7 +163,8 @@ fn text_of_line(line: &Printed) -> Text
 /// Writes a line in one call, and lets it go. Want of memory is the sink's own: the line itself takes none.
 pub fn print<O: Sink>(out: &mut O, line: Printed) -> Result<(), SinkError>
     ensures written { OnOk result (O.written out.new ≡ append_known (O.written out.old) (line_text line)) }
-    ensures failed { IsErrOf result SinkError.Failed → AppendsPrefix (O.written out.old) (O.written out.new) (line_text line) }
+    ensures failed { IsErrOf result SinkError.Failed
+        → AppendsPrefix (O.written out.old) (O.written out.new) (line_text line) }
     ensures cause { IsErrOf result SinkError.Failed → Rose (O.faults out.old) (O.faults out.new) }
     ensures memory { IsErrOf result SinkError.Memory → O.written out.new ≡ O.written out.old }
     ensures told { is_some (O.written out.new) ≡ is_some (O.written out.old) }

@@ -3,7 +3,7 @@
 use std::process::ExitCode;
 
 /// How a run ended. Each but `Done` and `WriteFault` has a last line that tells it.
-#[derive(Clone, Copy, Debug, PartialEq, Eq)]
+#[derive(Clone, Copy, PartialEq)]
 pub enum Status {
     /// The job was read to its end and done.
     Done,

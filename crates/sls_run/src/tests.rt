@@ -1,8 +1,6 @@
-use crate::plain;
 use crate::run_job::run_job;
 use crate::status::Status;
 use itoa::Buffer;
-use job_script::read_job;
 use pmem_model::Pmem;
 use sls_io::{MemShelf, MemSink, MemSource};
 use std::alloc::Global;
@@ -216,22 +214,6 @@ fn a_job_that_is_too_long_is_told(rt: HostRuntime) -> Result<(), Fail> {
         let ended = run_whole(rt.alloc(), text.as_slice())?;
         assert!(rt; ended.status == Status::BadJob);
         assert_eq!(rt; ended.report.as_slice(), report);
-    }
-    Ok(())
-}
-
-#[test]
-fn the_plain_program_gives_the_same_reports(rt: HostRuntime) -> Result<(), Fail> {
-    for lines in [
-        "run 9\ncheckpoint\nrun 9\ncut 0\ntake 0 9\nend\n",
-        "run 9\ncheckpoint\nrun 9\ncut 0\ntake 0 9\nrun 9\ncheckpoint\ntake 0 9\nend\n",
-        "run 9\ncut 0\ntake 0 1\nend\n",
-        "run 600\ncheckpoint\ntake 0 10\nrun 90\ncut 3\nrun 200\ncheckpoint\ntake 0 99\nend\n",
-    ] {
-        let ended = run_with(rt.alloc(), lines, &[], &[])?;
-        let job = read_job(rt.alloc(), whole_text(rt.alloc(), lines)?.as_slice())?;
-        let plain = plain::report(rt.alloc(), job.lines.as_slice())?;
-        assert_eq!(rt; ended.report.as_slice(), plain.as_slice(), "{lines}");
     }
     Ok(())
 }

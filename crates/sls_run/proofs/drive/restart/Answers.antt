@@ -1,6 +1,6 @@
 use Rattle.std.proofs.Common.{sym, subst}
-use Rattle.sls_kernel.specs.Plain.{cut, accepted_count}
-use Rattle.sls_kernel.specs.Shows.{Stands, durable_words}
+use Rattle.sls_kernel.specs.Plain.{cut}
+use Rattle.sls_kernel.specs.Shows.{StandsFor, durable_words}
 use Rattle.sls_kernel.specs.declared.machine.Off.{Off}
 use Rattle.sls_run.proofs.Turns.{cut_stands, not_both}
 use Rattle.sls_run.proofs.drive.restart.Goals as goal
@@ -11,5 +11,5 @@ returns-in-Ok-clause-shows c = λ w s.
 
 pub returns-in-Err-clause-refused : goal.returns-in-Err-clause-refused
 returns-in-Err-clause-refused c = λ w s.
-    subst (λ (off : Off). Stands (durable_words off.nvm) (accepted_count w) w.saved) (sym c.in-Err.ensures.refused.1)
+    subst (λ (off : Off). StandsFor (durable_words off.nvm) w) (sym c.in-Err.ensures.refused.1)
     (cut_stands c.args.machine c.cut.result w c.requires.up (c.cut.ensures.shows w s) (c.cut.ensures.unformatted w s))

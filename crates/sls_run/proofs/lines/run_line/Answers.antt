@@ -31,7 +31,7 @@ returns-in-Err-clause-broke g c = λ w s.
     let old = g.O.Sink.written c.args.out.now in
     let stands = c.in-Err.ensures.refused w (c.write_backs.ensures.shows w s) in
     subst (λ (l : Line). BreaksAt NotLit old old c.in-Err.nvm (prints_of l w)) (sym c.in-Cut.is)
-    (one_breaks NotLit old old c.in-Err.nvm (Up w.version) (cut w) (w.version, refl, refl) stands)
+    (one_breaks NotLit old old c.in-Err.nvm (Up w.version) (cut w) (w.version, refl, refl) (record { version = stands.version; saved = stands.saved }))
 
 pub returns-in-End-clause-broke : goal.returns-in-End-clause-broke
 returns-in-End-clause-broke g c = err_both c.say-in-End.result c.say-in-End.ensures.part c.say-in-End.ensures.stands (λ broken part stands w s.

@@ -1,6 +1,6 @@
 use Rattle.std.proofs.Common.{ℕ, List, IfSome, length, take, ◌≤◌, ◌≡◌, subst, sym}
 use Rattle.std.specs.Io.KnownBytes.{IsAtEnd}
-use Rattle.sls_run.proofs.Texts.{leaves}
+use Rattle.sls_run.proofs.Texts.{leaves, takes_text}
 use Rattle.sls_run.proofs.Told.{tells, answers}
 use Rattle.sls_run.proofs.run_job.run_job.Goals as goal
 
@@ -35,3 +35,11 @@ returns-in-Ok-clause-fault g c = λ is.
     (subst (λ (text : List ℕ). IfSome left (λ all. text ≡ take 65537 all)) (sym c.deref.ensures.value) c.in-Ok.ensures.first)
     (subst (λ (text : List ℕ). length text ≤ 65536 → IsAtEnd left_after × source_ended) (sym c.deref.ensures.value) c.in-Ok.ensures.end)
     c.run_text.ensures.run)
+
+pub returns-in-Ok-clause-takes : goal.returns-in-Ok-clause-takes
+returns-in-Ok-clause-takes g c =
+    let t = takes_text (g.S.Source.left c.args.job.now) (g.S.Source.left c.read_to_end.new.source) c.in-Ok.ensures.told c.in-Ok.ensures.rest in
+    (t.taken, t.first)
+
+pub returns-in-Ok-clause-takes_at_most : goal.returns-in-Ok-clause-takes_at_most
+returns-in-Ok-clause-takes_at_most g c = λ read. takes_text (g.S.Source.left c.args.job.now) (g.S.Source.left c.read_to_end.new.source) c.in-Ok.ensures.told c.in-Ok.ensures.rest

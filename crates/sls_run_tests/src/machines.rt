@@ -1,42 +1,25 @@
-ghost use Rattle.std.specs.Prelude.{IfOk};
-ghost use Rattle.pmem_model.specs.Memory.{AllHome};
-ghost use Rattle.sls_kernel.specs.Program.{IsOfCode};
+//! The machine by itself: formatting, checkpoints, cuts and recovery, entries, stops and refusals.
 
-use crate::{Asked, Did, Machine, Off, memory};
+ghost use Rattle.std.specs.Prelude.{◌<◌};
+ghost use Rattle.sls_base.specs.declared.limits.TheConstants.{WORDS};
+ghost use Rattle.pmem_model.specs.Memory.{AllHome};
+
+use crate::programs::{
+    CHECKPOINT, FORMATTING, RECOVERY, ask, boot, counting, cut_and_light, image_of, turns,
+};
 use pmem_model::Pmem;
-use sls_base::{FRAME_WORDS, Image, PAGE_BYTES, Program, RegionSpec, TABLE_WORDS};
+use sls_base::{FRAME_WORDS, TABLE_WORDS};
+use sls_kernel::{Asked, Did, Machine, Off};
 use std::alloc::Global;
 use std::process::Abort;
 use std::test::Fail;
 
-mod play;
-
-/// A program that counts up in its page and puts each count, of four bytes, on channel 0: nine instructions a round.
-const CODE: [u32; 9] = [
-    0x0400_2283, // lw x5, 64(x0)
-    0x0012_8293, // addi x5, x5, 1
-    0x0450_2023, // sw x5, 64(x0)
-    0x0020_0513, // addi x10, x0, 2
-    0x0400_0593, // addi x11, x0, 64
-    0x0040_0613, // addi x12, x0, 4
-    0x0020_0893, // addi x17, x0, 2
-    0x0000_0073, // ecall
-    0xFE1F_F06F, // jal x0, -32
-];
-
 /// The turns of a round of the program.
 const ROUND: u32 = 9;
-/// The turns of formatting.
-const FORMATTING: u32 = 17;
-/// The turns of a checkpoint.
-const CHECKPOINT: u32 = 16;
-/// The turns of recovery.
-const RECOVERY: u32 = 5;
-
-/// The first frame of the first area, which formatting makes durable.
-const FIRST_AREA: usize = 16;
-/// The frames of an area.
-const PARTS: usize = 6;
+/// Where the first area begins, which formatting makes durable: at frame 16.
+const AREA_PLACE: usize = TABLE_WORDS + 16 * FRAME_WORDS;
+/// The words of its six frames.
+const AREA_WORDS: usize = 6 * FRAME_WORDS;
 
 /// The place of the word that says what the thread does, in the record of the second area.
 const STATUS_PLACE: usize = TABLE_WORDS + 29 * FRAME_WORDS + 16;
@@ -47,65 +30,6 @@ const STOPPED: u64 = 6;
 const HALTS: [u32; 2] = [0x0010_0893, 0x0000_0073];
 /// More turns than a program that stops takes.
 const LIMIT: u32 = 100;
-
-/// The image of a program.
-fn image_of(rt: &impl Abort, alloc: Global, code: &[u32]) -> Result<Image, Fail>
-    ensures { IfOk result IsOfCode }
-{
-    let mut content = Vec::new(alloc);
-    for word in code {
-        content.extend_from_slice(&word.to_le_bytes())?;
-    }
-    assert!(rt; content.len() <= PAGE_BYTES);
-    let mut regions = Vec::new(alloc);
-    regions.push(RegionSpec {
-        base: 0,
-        pages: 1,
-        rights: 7,
-        content,
-    })?;
-    let mut programs = Vec::new(alloc);
-    programs.push(Program {
-        entry: 0,
-        threads: 1,
-        channels: 63,
-        regions,
-    })?;
-    Ok(Image { programs })
-}
-
-/// The image of the program that counts.
-fn counting(rt: &impl Abort, alloc: Global) -> Result<Image, Fail>
-    ensures { IfOk result IsOfCode }
-{
-    image_of(rt, alloc, &CODE)
-}
-
-/// A machine that begins to format an empty memory.
-fn boot(alloc: Global, image: &Image) -> Result<Machine, Fail>
-    requires { IsOfCode image.now }
-{
-    let nvm = Pmem::new(alloc)?;
-    let machine = Machine::boot(alloc, image, 1, nvm);
-    Ok(machine.ok().ok_or("there is memory for a machine")?)
-}
-
-/// A machine that went through a power cut.
-fn cut_and_light(alloc: Global, machine: Machine, image: &Image) -> Result<Machine, Fail>
-    requires { IsOfCode image.now }
-{
-    let machine = machine.cut().light(alloc, image, 1);
-    Ok(machine.ok().ok_or("there is memory for a machine")?)
-}
-
-/// What the last of so many turns did.
-fn turns(machine: &mut Machine, count: u32) -> Did {
-    let mut did = Did::Idle;
-    for _ in 0..count {
-        did = machine.turn(0);
-    }
-    did
-}
 
 /// After how many turns a machine that is up has nothing to run, if that is below the limit.
 fn turns_until_idle(machine: &mut Machine) -> u32 {
@@ -140,12 +64,6 @@ fn putting(slot: u32, address: u32, length: u32) -> [u32; 12] {
     ]
 }
 
-/// What asking for a checkpoint gives.
-fn ask(rt: &impl Abort, alloc: Global, machine: &mut Machine) -> Asked {
-    assert!(rt; machine.is_up());
-    machine.ask(alloc)
-}
-
 /// Whether channel 0 has nothing to accept.
 fn has_none(rt: &impl Abort, machine: &mut Machine) -> bool {
     assert!(rt; machine.is_up());
@@ -161,21 +79,27 @@ fn accepts(rt: &impl Abort, machine: &mut Machine, number: u64, bytes: &[u8]) ->
     }
 }
 
+/// The durable value of a word.
+fn durable(nvm: &Pmem, at: usize) -> u64
+    requires range { at < WORDS }
+    requires home { AllHome nvm.now }
+{
+    nvm.durable(at)
+}
+
 /// The durable words of two memories are the same where formatting stores them.
 fn is_same(one: &Off, other: &Off) -> bool
     requires one { AllHome one.now.nvm }
     requires other { AllHome other.now.nvm }
 {
     for at in 0..2 {
-        if memory::table_durable(&one.nvm, at) != memory::table_durable(&other.nvm, at) {
+        if durable(&one.nvm, at) != durable(&other.nvm, at) {
             return false;
         }
     }
-    for frame in FIRST_AREA..FIRST_AREA + PARTS {
-        for i in 0..FRAME_WORDS {
-            if memory::durable(&one.nvm, frame, i) != memory::durable(&other.nvm, frame, i) {
-                return false;
-            }
+    for at in AREA_PLACE..AREA_PLACE + AREA_WORDS {
+        if durable(&one.nvm, at) != durable(&other.nvm, at) {
+            return false;
         }
     }
     true
@@ -266,12 +190,11 @@ fn a_write_back_of_the_version_word_commits(rt: HostRuntime) -> Result<(), Fail>
     Ok(())
 }
 
-/// The word of the record of a stopped thread, as the first checkpoint saves it: that the thread stopped, and the cause.
+/// The word of the record of a stopped thread, as the first checkpoint saves it: that it stopped, and the cause.
 fn saved_status(rt: &impl Abort, alloc: Global, machine: &mut Machine) -> u64 {
     assert_eq!(rt; ask(rt, alloc, machine), Asked::Started);
     assert_eq!(rt; turns(machine, CHECKPOINT), Did::Committed(1));
-    let memory = machine.nvm();
-    memory.durable(STATUS_PLACE)
+    durable(machine.nvm(), STATUS_PLACE)
 }
 
 #[test]

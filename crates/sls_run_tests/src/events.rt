@@ -3,9 +3,9 @@
 ghost use Rattle.std.specs.Prelude.{IsTrue, All};
 ghost use Rattle.sls_kernel.specs.Play.{IsPossible};
 
-use super::counting;
-use crate::{Answer, Asked, Did, Event, Why, play_from_boot};
+use crate::programs::counting;
 use pmem_model::Pmem;
+use sls_kernel::{Answer, Asked, Did, Event, Why, play_from_boot};
 use std::alloc::Global;
 use std::process::Abort;
 use std::test::Fail;
