@@ -1,0 +1,74 @@
+//! The log's entries and its head.
+
+ghost use Rattle.std.specs.Prelude.{◌≡◌, ◌<◌, ◌^◌, Some, IfSome};
+
+use crate::field::bits;
+use crate::number::Number;
+use sls_base::Version;
+
+/// The bits below the version in the head.
+const COUNT_BITS: u32 = 16;
+
+/// An entry of the log: a number that comes into use, or goes out of it.
+#[derive(Clone, Copy, PartialEq, Eq, Debug)]
+pub struct LogEntry {
+    pub number: Number,
+    pub comes: bool,
+}
+
+/// The head of the log: the version at which its entries count, and how many there are.
+#[derive(Clone, Copy, PartialEq, Eq, Debug)]
+pub struct LogHead {
+    pub version: Version,
+    pub entries: u16,
+}
+
+impl LogEntry {
+    ghost use Rattle.pmem_layout.specs.declared.log.LogEntry.{LogEntry};
+    ghost use Rattle.pmem_layout.specs.Numbers.{IsNumber};
+    ghost use Rattle.pmem_layout.specs.Fields.{entry_word};
+
+    /// The word of an entry.
+    pub fn to_word(self) -> u64
+        requires { IsNumber self.number }
+        ensures { result ≡ entry_word self.number self.comes }
+    {
+        self.number.index() as u64 * 2 + u64::from(self.comes)
+    }
+
+    /// The entry of a word. It is None exactly where its number is out of range.
+    pub fn from_word(word: u64) -> Option<LogEntry>
+        ensures found { IfSome result (λ e. IsNumber e.number × (entry_word e.number e.comes ≡ word)) }
+        ensures only { (e : LogEntry) → IsNumber e.number → entry_word e.number e.comes ≡ word → result ≡ Some e }
+    {
+        Some(LogEntry {
+            number: Number::from_index((word / 2) as usize)?,
+            comes: word % 2 == 1,
+        })
+    }
+}
+
+impl LogHead {
+    ghost use Rattle.pmem_layout.specs.declared.log.LogHead.{LogHead};
+    ghost use Rattle.pmem_layout.specs.Fields.{head_word, IsHead};
+
+    /// The word of a head.
+    pub fn to_word(self) -> u64
+        requires { IsHead self }
+        ensures { result ≡ head_word self.version self.entries }
+    {
+        (self.version << COUNT_BITS) + u64::from(self.entries)
+    }
+
+    /// The head of a word. Every word is a head's; that of the empty word is of version 0 and has no entries.
+    pub fn from_word(word: u64) -> LogHead
+        ensures in_form { IsHead result }
+        ensures read { head_word result.version result.entries ≡ word }
+        ensures only { (head : LogHead) → IsHead head → head_word head.version head.entries ≡ word → result ≡ head }
+    {
+        LogHead {
+            version: word >> COUNT_BITS,
+            entries: bits(word, 0, COUNT_BITS) as u16,
+        }
+    }
+}
