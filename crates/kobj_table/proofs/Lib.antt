@@ -1,0 +1,4 @@
+pub mod Runs
+pub mod States
+pub mod Fresh
+pub mod Nothing
