@@ -1,10 +1,10 @@
 -- A word is where its bank begins, and its place there; and the banks stand one behind another.
-use Rattle.std.proofs.Common.{◌≡◌, ◌≢◌, ℕ, ◌+◌, ◌-◌, ◌<◌, ◌≤◌, false, cond, arith, sym, ◌==◌, ⊎_elim, add-zero}
-use Rattle.std.proofs.lemmas.Bool.{cases_eq}
+use Rattle.std.proofs.Common.{◌≡◌, ◌≢◌, ℕ, ◌+◌, ◌-◌, ◌<◌, ◌≤◌, nat_lt, true, false, ◌||◌, IsTrue, List, Option, is_some, cond, arith, sym, ◌==◌, ⊎_elim, add-zero}
+use Rattle.std.proofs.lemmas.Bool.{cases_eq, cases_Bool}
 use Rattle.std.proofs.lemmas.Bool.Decides.{nat_tests}
-use Rattle.sls_base.specs.declared.limits.TheConstants.{FRAME_WORDS, FRAMES, WORDS}
-use Rattle.pmem_model.specs.Words.{is_within}
-use Rattle.pmem_model.specs.Places.{bank_of, offset_of, bank_size, bank_start}
+use Rattle.sls_base.specs.declared.limits.TheConstants.{TABLE_WORDS, FRAME_WORDS, FRAMES, WORDS}
+use Rattle.pmem_model.specs.Words.{BankWords, is_within}
+use Rattle.pmem_model.specs.Places.{bank_of, offset_of, bank_size, bank_start, bank_at}
 
 pub place_sum : (i : ℕ) → bank_start (bank_of i) + offset_of i ≡ i
 unfolding bank_of offset_of bank_start
@@ -99,3 +99,14 @@ unfolding bank_of
 bank_of_ge i h = grind (arith, nat_tests)
 
 pub ruleset parts = (bank_of_lt, bank_of_ge, offset_of_lt, place_sum, bank_end)
+
+-- a word of the table, or of a frame at home, is in a bank at home, where the table is
+pub home_bank : (banks : List (Option BankWords)) (at : ℕ) → is_some (bank_at banks 0) ≡ true
+    → IsTrue (nat_lt at TABLE_WORDS || is_some (bank_at banks (bank_of at)))
+    → IsTrue (is_some (bank_at banks (bank_of at)))
+unfolding bank_of
+home_bank banks at table home =
+    ⊎_elim
+    (λ (low : nat_lt at TABLE_WORDS ≡ true). rw low table)
+    (λ (high : nat_lt at TABLE_WORDS ≡ false). let h = rw high at home in rw high h)
+    (cases_Bool (nat_lt at TABLE_WORDS))

@@ -1,11 +1,11 @@
 -- Each word in flight for a core stays among those that it has flushed.
-use Rattle.std.proofs.Common.{◌≡◌, ◌≢◌, ℕ, ◌+◌, ◌<◌, Bool, true, false, cond, refl, sym, ◌∙◌, arith, List, length, get_or, get_or-set_same, get_or-set_other, length-set, Option, Some, None, ⊎_elim}
+use Rattle.std.proofs.Common.{◌≡◌, ◌≢◌, ℕ, ◌+◌, ◌<◌, Bool, true, false, cond, refl, sym, ◌∙◌, arith, List, length, get_or, get_or-set_same, get_or-set_other, length-set, Option, Some, None, is_some, ⊎_elim}
 use Rattle.std.proofs.Math.ListN.{set}
 use Rattle.std.proofs.lemmas.Bool.{cases_eq}
 use Rattle.pmem_model.specs.declared.flushes.Flushes.{Flushes}
 use Rattle.pmem_model.specs.Flushes.{may_be_flushed}
 use Rattle.pmem_model.specs.Kept.{IsSound}
-use Rattle.pmem_model.specs.Places.{word_among, AreBanks, bank_of, offset_of, bank_start}
+use Rattle.pmem_model.specs.Places.{word_among, bank_at, AreBanks, bank_of, offset_of, bank_start}
 use Rattle.sls_base.specs.declared.limits.TheConstants.{FRAMES}
 use Rattle.std.proofs.lemmas.List.{get_or_default}
 use Rattle.std.proofs.lemmas.Bool.Decides.{nat_tests}
@@ -27,14 +27,16 @@ flush_other core other false v w is ne has = rw is at has
 
 pub sound_after_flush : (banks after : List (Option BankWords)) (flushes : List Flushes) (e g : Flushes) (core at n : ℕ)
     → IsSound banks flushes → AreBanks after → core < 8
+    → ((k : ℕ) → is_some (bank_at after k) ≡ is_some (bank_at banks k))
     → ((i : ℕ) → word_among after i ≡ cond (is_within at n i) (flushed core (word_among banks i)) (word_among banks i))
     → ((i : ℕ) → may_be_flushed (get_or flushes core e) i ≡ true → may_be_flushed g i ≡ true)
     → ((i : ℕ) → is_within at n i ≡ true → may_be_flushed g i ≡ true)
     → IsSound after (set flushes core g)
-sound_after_flush banks after flushes e g core at n sound sized lt words had added =
+sound_after_flush banks after flushes e g core at n sound sized lt home words had added =
     let long : core < length flushes = omega (arith, sound.cores) in
     record {
       banks_sized = sized;
+      table = home 0 ∙ sound.table;
       cores = length-set flushes core g ∙ sound.cores;
       flushed = λ other i d small has.
           ⊎_elim
@@ -51,11 +53,13 @@ sound_after_flush banks after flushes e g core at n sound sized lt words had add
 
 pub sound_after_fence : (banks after : List (Option BankWords)) (flushes : List Flushes) (g : Flushes) (core : ℕ)
     → IsSound banks flushes → AreBanks after → core < 8
+    → ((k : ℕ) → is_some (bank_at after k) ≡ is_some (bank_at banks k))
     → ((i : ℕ) → word_among after i ≡ fenced core (word_among banks i))
     → IsSound after (set flushes core g)
-sound_after_fence banks after flushes g core sound sized lt words =
+sound_after_fence banks after flushes g core sound sized lt home words =
     record {
       banks_sized = sized;
+      table = home 0 ∙ sound.table;
       cores = length-set flushes core g ∙ sound.cores;
       flushed = λ other i d small has.
           ⊎_elim
@@ -108,6 +112,7 @@ sound_after_return banks flushes after frame marks b sound small len cores all h
             (λ (ne : k ≢ 1 + frame). rw (get_or-set_other banks (1 + frame) k (Some b) None ne) (sound.banks_sized.sizes k))
             (cases_eq k (1 + frame));
       };
+      table = rw (get_or-set_other banks (1 + frame) 0 (Some b) None (omega arith)) sound.table;
       cores = cores;
       flushed = λ core i d below has. ⊎_elim
           (λ (same : bank_of i ≡ 1 + frame).
@@ -123,10 +128,12 @@ sound_after_return banks flushes after frame marks b sound small len cores all h
 -- an event after which no word is in flight for more cores
 pub sound_after_less : (banks after : List (Option BankWords)) (flushes : List Flushes)
     → IsSound banks flushes → AreBanks after
+    → ((k : ℕ) → is_some (bank_at after k) ≡ is_some (bank_at banks k))
     → ((core i : ℕ) → has_core (word_among after i).marks core ≡ true → has_core (word_among banks i).marks core ≡ true)
     → IsSound after flushes
-sound_after_less banks after flushes sound sized less = record {
+sound_after_less banks after flushes sound sized home less = record {
   banks_sized = sized;
+  table = home 0 ∙ sound.table;
   cores = sound.cores;
   flushed = λ core i d lt has. sound.flushed core i d lt (less core i has);
 }

@@ -1,7 +1,7 @@
 -- What contracts see of a memory, and of a frame that it has lent.
-use Rattle.std.specs.Prelude.{◌≡◌, ◌≢◌, ℕ, ◌+◌, ◌-◌, ◌^◌, ◌<◌, Bool, true, min, List, Option, is_some}
+use Rattle.std.specs.Prelude.{◌≡◌, ◌≢◌, ℕ, ◌+◌, ◌-◌, ◌^◌, ◌<◌, Bool, true, ◌||◌, nat_lt, min, List, Option, is_some}
 pub use Rattle.sls_base.specs.Counts.{one_more as count_up}
-use Rattle.sls_base.specs.declared.limits.TheConstants.{FRAMES}
+use Rattle.sls_base.specs.declared.limits.TheConstants.{TABLE_WORDS, FRAMES}
 use Rattle.pmem_model.specs.Words.{Word, BankWords}
 use Rattle.pmem_model.specs.Places.{bank_of, bank_start, word_among, bank_at}
 
@@ -16,9 +16,9 @@ pub record Memory : Type 0 where
 abbrev pub word_at : Memory → ℕ → Word
 word_at m at = word_among m.banks at
 
--- the word's frame is at home, or it is in the table
+-- the word is in the table, or its frame is at home
 abbrev pub is_at_home : Memory → ℕ → Bool
-is_at_home m at = is_some (bank_at m.banks (bank_of at))
+is_at_home m at = nat_lt at TABLE_WORDS || is_some (bank_at m.banks (bank_of at))
 
 -- the frame is at home
 abbrev pub is_frame_home : Memory → ℕ → Bool

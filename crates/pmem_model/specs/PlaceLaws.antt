@@ -1,8 +1,8 @@
 -- Where words stand: laws for those who use a memory.
-use Rattle.std.proofs.Common.{◌≡◌, ◌≢◌, ℕ, ◌+◌, ◌-◌, ◌*◌, ◌/◌, ◌%◌, ◌<◌, ◌≤◌, ◌⊎◌, inl, inr, ⊎_elim, true, IsTrue, is_some, arith, ◌∙◌, refl}
-use Rattle.std.proofs.lemmas.Bool.{cases_eq, cases_lt}
+use Rattle.std.proofs.Common.{◌≡◌, ◌≢◌, ℕ, ◌+◌, ◌-◌, ◌*◌, ◌/◌, ◌%◌, ◌<◌, ◌≤◌, ◌⊎◌, inl, inr, ⊎_elim, true, false, nat_lt, IsTrue, is_some, arith, ◌∙◌, refl}
+use Rattle.std.proofs.lemmas.Bool.{cases_eq, cases_lt, cases_Bool}
 use Rattle.std.proofs.lemmas.Bool.Decides.{nat_tests}
-use Rattle.sls_base.specs.declared.limits.TheConstants.{FRAMES, WORDS}
+use Rattle.sls_base.specs.declared.limits.TheConstants.{TABLE_WORDS, FRAMES, WORDS}
 use Rattle.pmem_model.specs.Places.{bank_of, offset_of, bank_size, bank_start, bank_at}
 use Rattle.pmem_model.specs.Memory.{Memory, is_at_home, is_frame_home, frame_begin, AllHome, SameHomes, SameHomesBut}
 
@@ -100,12 +100,22 @@ place_cases at h =
 
 -- a frame is at home where its words are
 pub home-frame : (m : Memory) (f o : ℕ) → o < 512 → is_at_home m (17920 + 512 * f + o) ≡ is_frame_home m f
-home-frame m f o h = rw (bank_of-frame f o h) refl
+home-frame m f o h =
+    let high : nat_lt (17920 + 512 * f + o) TABLE_WORDS ≡ false = grind (arith, nat_tests) in rw (high, bank_of-frame f o h) refl
+
+-- the table is always at home
+pub table_home : (m : Memory) (at : ℕ) → at < TABLE_WORDS → is_at_home m at ≡ true
+table_home m at h = let low : nat_lt at TABLE_WORDS ≡ true = grind (arith, nat_tests) in rw low refl
 
 -- where all are at home, each is
 pub home_of : (m : Memory) (at : ℕ) → AllHome m → at < WORDS → IsTrue (is_at_home m at)
 unfolding bank_of
-home_of m at all h = let lt : bank_of at < 1 + FRAMES = grind (arith, nat_tests) in all (bank_of at) lt
+home_of m at all h =
+    let lt : bank_of at < 1 + FRAMES = grind (arith, nat_tests) in
+    ⊎_elim
+    (λ (low : nat_lt at TABLE_WORDS ≡ true). rw low refl)
+    (λ (high : nat_lt at TABLE_WORDS ≡ false). let home = all (bank_of at) lt in rw high (rw high at home))
+    (cases_Bool (nat_lt at TABLE_WORDS))
 
 pub frame_home_of : (m : Memory) (f : ℕ) → AllHome m → f < FRAMES → IsTrue (is_frame_home m f)
 frame_home_of m f all h = all (1 + f) (omega arith)
@@ -120,10 +130,7 @@ home_kept old new at same h = rw (same (bank_of at)) h
 pub frame_home_kept : (old new : Memory) (f : ℕ) → SameHomes old new → IsTrue (is_frame_home old f) → IsTrue (is_frame_home new f)
 frame_home_kept old new f same h = rw (same (1 + f)) h
 
--- a frame that is lent or comes back leaves the homes of the table and of other frames
-pub table_home_but : (old new : Memory) (frame at : ℕ) → SameHomesBut frame old new → at < 17920 → is_at_home new at ≡ is_at_home old at
-table_home_but old new frame at same h = rw (bank_of-table at h) (same 0 (omega arith))
-
+-- a frame that is lent or comes back leaves the homes of other frames
 pub frame_home_but : (old new : Memory) (frame other : ℕ) → SameHomesBut frame old new → other ≢ frame → is_frame_home new other ≡ is_frame_home old other
 frame_home_but old new frame other same ne = same (1 + other) (omega arith)
 

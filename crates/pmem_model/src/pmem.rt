@@ -14,7 +14,8 @@ use std::alloc::{AllocError, Global};
 use std::marker::Model;
 
 /// A persistent memory of 558,592 words: the table, words 0 to 17,919, and behind it 1,056 frames of 512 words. A line is
-/// 8 words and begins at a multiple of 8. Cores are numbered from 0 to 7.
+/// 8 words and begins at a multiple of 8. Cores are numbered from 0 to 7. The table is always at home, a frame until it
+/// is lent.
 ///
 /// Only `new` and `from_words` take memory. No other call is refused.
 #[derive(Drop)]
