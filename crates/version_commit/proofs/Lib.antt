@@ -1,0 +1,4 @@
+pub mod Commits
+pub mod OnWays
+pub mod Places
+pub mod Steps

@@ -1,0 +1,3 @@
+pub mod OnWay
+pub mod Events
+pub mod Shows

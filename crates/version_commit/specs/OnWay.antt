@@ -1,0 +1,35 @@
+-- A word that is made durable by a store, a flush and a fence.
+use Rattle.std.specs.Prelude.{◌≡◌, ℕ}
+use Rattle.pmem_model.specs.Words.{Word}
+use Rattle.pmem_model.specs.Events.{Kind, Clean, Over, ReadyOver, WordIs}
+use Rattle.version_commit.specs.declared.step.TheConstants.{LEADER}
+use Rattle.version_commit.specs.declared.step.Step.{Step}
+use Rattle.version_commit.specs.declared.step.Step.TheVariants.{Store, Flush, Fence}
+
+abbrev pub next : Step → Step
+next Store = Flush
+next Flush = Fence
+next Fence = Store
+
+-- what is known of it before the step: before the store it is clean, and before the fence in flight
+abbrev pub kind_before : Step → ℕ → Kind
+kind_before Store was = Clean
+kind_before Flush was = Over was
+kind_before Fence was = ReadyOver was
+
+-- The word came as far as to this step. Its durable value is `was`, and it reads `reads`.
+pub record IsOnWay (step : Step) (word : Word) (was reads : ℕ) : Type 0 where
+  pub durable : word.durable ≡ was
+  pub known : WordIs LEADER (kind_before step was) word reads
+
+-- its durable value after the step
+abbrev pub durable_after : Step → ℕ → ℕ → ℕ
+durable_after Store was reads = was
+durable_after Flush was reads = was
+durable_after Fence was reads = reads
+
+-- what it reads after the step, which may store a value
+abbrev pub reads_after : Step → ℕ → ℕ → ℕ
+reads_after Store value reads = value
+reads_after Flush value reads = reads
+reads_after Fence value reads = reads

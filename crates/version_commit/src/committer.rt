@@ -1,0 +1,78 @@
+//! The format word and the version word, step by step.
+
+ghost use Rattle.std.specs.Prelude.{◌≡◌, ℕ, ◌↔◌, IsTrue};
+ghost use Rattle.pmem_model.specs.Words.{Word};
+ghost use Rattle.pmem_model.specs.Memory.{word_at, SameHomes, count_up};
+ghost use Rattle.pmem_model.specs.Events.{WordIs, Clean};
+ghost use Rattle.pmem_layout.specs.Owners as owners;
+ghost use Rattle.pmem_layout.specs.Rooms.{StoresOnlyIn};
+ghost use Rattle.version_commit.specs.OnWay.{next, durable_after, reads_after};
+ghost use Rattle.version_commit.specs.Shows.{FormatShows, VersionShows};
+
+use crate::step::{self, LEADER, Step};
+use pmem_layout::{FORMAT_AT, FORMAT_WORD, VERSION_AT};
+use pmem_model::Pmem;
+use sls_base::Version;
+
+/// How far the format word and the version word came on their way to be durable.
+#[derive(Drop)]
+pub struct Committer {
+    format: Step,
+    version: Step,
+}
+
+/// The committed version.
+pub fn version(nvm: &Pmem) -> Version
+    ensures { result ≡ (word_at nvm.now VERSION_AT).durable }
+{
+    nvm.durable(VERSION_AT)
+}
+
+impl Committer {
+    /// Neither word is on its way.
+    pub fn new() -> Committer
+        ensures format { (f : ℕ → Word) (word : ℕ) → WordIs LEADER Clean (f FORMAT_AT) word → FormatShows result f word word }
+        ensures version { (f : ℕ → Word) (v : ℕ) → WordIs LEADER Clean (f VERSION_AT) v → VersionShows result f v v }
+    {
+        Committer {
+            format: Step::Store,
+            version: Step::Store,
+        }
+    }
+
+    /// Stores, flushes and fences the format word, one operation a call. True exactly at the last, with which it is
+    /// durable.
+    pub fn format_step(&mut self, nvm: &mut Pmem) -> bool
+        ensures last { IsTrue result ↔ (self.old.format ≡ Step.Fence) }
+        ensures steps { self.new ≡ record self.old { format = next self.old.format } }
+        ensures one { nvm.new.ops ≡ count_up nvm.old.ops }
+        ensures homes { SameHomes nvm.old nvm.new }
+        ensures rest { StoresOnlyIn owners.Fixed (word_at nvm.old) (word_at nvm.new) }
+        ensures shows { (was reads : ℕ) → FormatShows self.old (word_at nvm.old) was reads
+            → FormatShows self.new (word_at nvm.new) (durable_after self.old.format was reads)
+            (reads_after self.old.format FORMAT_WORD reads) }
+    {
+        let step = self.format;
+        step::go_on(nvm, step, FORMAT_AT, FORMAT_WORD);
+        self.format = step.next();
+        step.is_last()
+    }
+
+    /// Stores, flushes and fences the version word, one operation a call. True exactly at the last, with which the
+    /// version is committed at the latest.
+    pub fn commit_step(&mut self, nvm: &mut Pmem, version: Version) -> bool
+        ensures last { IsTrue result ↔ (self.old.version ≡ Step.Fence) }
+        ensures steps { self.new ≡ record self.old { version = next self.old.version } }
+        ensures one { nvm.new.ops ≡ count_up nvm.old.ops }
+        ensures homes { SameHomes nvm.old nvm.new }
+        ensures rest { StoresOnlyIn owners.Version (word_at nvm.old) (word_at nvm.new) }
+        ensures shows { (v w : ℕ) → VersionShows self.old (word_at nvm.old) v w
+            → VersionShows self.new (word_at nvm.new) (durable_after self.old.version v w)
+            (reads_after self.old.version version w) }
+    {
+        let step = self.version;
+        step::go_on(nvm, step, VERSION_AT, version);
+        self.version = step.next();
+        step.is_last()
+    }
+}

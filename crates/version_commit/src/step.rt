@@ -1,0 +1,62 @@
+//! One word of the table that is made durable.
+
+ghost use Rattle.std.specs.Prelude.{◌≡◌, ◌≢◌, ℕ, ◌+◌, ◌<◌, ◌↔◌, IsTrue};
+ghost use Rattle.pmem_model.specs.Words.{Word};
+ghost use Rattle.pmem_model.specs.Memory.{word_at, SameHomes, count_up};
+ghost use Rattle.pmem_model.specs.Events.{WordCalm};
+ghost use Rattle.version_commit.specs.OnWay.{IsOnWay, next, durable_after, reads_after};
+
+use pmem_layout::line_at;
+use pmem_model::Pmem;
+use sls_base::{CoreNo, TABLE_WORDS};
+
+/// The core that makes the words durable.
+pub const LEADER: CoreNo = 0;
+
+/// The operation on a word that comes next.
+#[derive(Clone, Copy)]
+pub enum Step {
+    Store,
+    Flush,
+    Fence,
+}
+
+/// Takes a word of the table one operation on.
+#[tactic(auto, using(crate::proofs::Places::places))]
+pub fn go_on(nvm: &mut Pmem, step: Step, at: usize, value: u64)
+    requires table { at < TABLE_WORDS }
+    ensures others { (i : ℕ) → i ≢ at → WordCalm (word_at nvm.old i) (word_at nvm.new i) }
+    ensures homes { SameHomes nvm.old nvm.new }
+    ensures one { nvm.new.ops ≡ count_up nvm.old.ops }
+    ensures shows { (was reads : ℕ) → IsOnWay step (word_at nvm.old at) was reads
+        → IsOnWay (next step) (word_at nvm.new at) (durable_after step was reads) (reads_after step value reads) }
+{
+    match step {
+        Step::Store => nvm.burst(at, &[value]),
+        Step::Flush => nvm.flush(LEADER, line_at(at), 1),
+        Step::Fence => nvm.fence(LEADER),
+    }
+}
+
+impl Step {
+    /// The step after this one; after the fence the word may be stored anew.
+    pub fn next(self) -> Step
+        ensures { result ≡ next self }
+    {
+        match self {
+            Step::Store => Step::Flush,
+            Step::Flush => Step::Fence,
+            Step::Fence => Step::Store,
+        }
+    }
+
+    /// Whether it is the last of the three.
+    pub fn is_last(self) -> bool
+        ensures { IsTrue result ↔ (self ≡ Step.Fence) }
+    {
+        match self {
+            Step::Fence => true,
+            _ => false,
+        }
+    }
+}
