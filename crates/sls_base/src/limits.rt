@@ -10,6 +10,8 @@ pub const FRAMES: usize = 1_056;
 pub const WORDS: usize = 558_592;
 /// The words of a line, which a flush names.
 pub const LINE_WORDS: usize = 8;
+/// The word of the memory that holds the version, whose change is a commit.
+pub const VERSION_AT: usize = 1;
 
 /// The cores that a machine may have.
 pub const CORES: usize = 8;
