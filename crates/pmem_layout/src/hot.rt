@@ -25,15 +25,15 @@ impl HotWord {
     /// The hot word of a spare that is given to a page.
     pub fn to_word(self) -> u64
         requires { IsHotWord self }
-        ensures { result ≡ hot_word self.tag self.page }
+        ensures { result ≡ hot_word self }
     {
         (self.tag.to_word() << PAGE_BITS) + HOT_MARK + u64::from(self.page)
     }
 
     /// What a hot word tells. It is None exactly for a word that is no hot word, as the empty one.
     pub fn from_word(word: u64) -> Option<HotWord>
-        ensures found { IfSome result (λ hot. IsHotWord hot × (hot_word hot.tag hot.page ≡ word)) }
-        ensures only { (hot : HotWord) → IsHotWord hot → hot_word hot.tag hot.page ≡ word → result ≡ Some hot }
+        ensures found { IfSome result (λ hot. IsHotWord hot × (hot_word hot ≡ word)) }
+        ensures only { (hot : HotWord) → IsHotWord hot → hot_word hot ≡ word → result ≡ Some hot }
     {
         let page = bits(word, 0, PAGE_BITS).checked_sub(HOT_MARK)?;
         if page >= PAGES as u64 {

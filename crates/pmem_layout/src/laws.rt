@@ -1,28 +1,29 @@
 //! Laws. Each of these functions does nothing: its contract is the law.
 
-ghost use Rattle.std.specs.Prelude.{◌≡◌, ◌≢◌, ◌+◌, ◌*◌, ◌/◌, ◌%◌, ◌^◌, ◌<◌, ◌≤◌, ◌⊎◌, ℕ, true, None, IsNone, codes};
-ghost use Rattle.std.specs.Int.{w64, from_le_bytes};
+ghost use Rattle.std.specs.Prelude.{◌≡◌, ◌≢◌, ◌+◌, ◌*◌, ◌/◌, ◌%◌, ◌^◌, ◌<◌, ◌≤◌, ◌⊎◌, ◌↔◌, ℕ, true, None, IsNone, codes};
+ghost use Rattle.std.specs.Int.{w64, from_le_bytes, bit_at};
 ghost use Rattle.pmem_model.specs.Words.{Word};
-ghost use Rattle.pmem_model.specs.Events.{IsBurst, IsCalm};
+ghost use Rattle.pmem_model.specs.Events.{IsBurst, IsCalm, IsFenced, Left};
 ghost use Rattle.pmem_layout.specs.declared.tag.Tag.{Tag};
-ghost use Rattle.pmem_layout.specs.declared.tag.Tag.TheVariants.{Empty};
+ghost use Rattle.pmem_layout.specs.declared.tag.Tag.TheVariants.{Empty, Of};
 ghost use Rattle.pmem_layout.specs.declared.hot.HotWord.{HotWord};
+ghost use Rattle.pmem_layout.specs.declared.log.LogEntry.{LogEntry};
+ghost use Rattle.pmem_layout.specs.declared.log.LogHead.{LogHead};
 ghost use Rattle.pmem_layout.specs.declared.number.Number.{Number};
 ghost use Rattle.pmem_layout.specs.declared.number.Number.TheVariants.{Object, Page};
 ghost use Rattle.pmem_layout.specs.Places.{log_entry_at, backup_tag_at, hot_word_at, object_tag_at, object_slot_at, frame_at, runtime_frame, backup_frame, spare_frame, line_at, IsUnused};
-ghost use Rattle.pmem_layout.specs.Numbers.{IsNumber, index_of, base_at, base_bit};
-ghost use Rattle.pmem_layout.specs.Fields.{tag_word, hot_word, head_word};
-ghost use Rattle.pmem_layout.specs.Owners.{Owner, Fixed, Version, Numbers, Objects, Pages, owner};
-ghost use Rattle.pmem_layout.specs.Rooms.{StoresOnlyIn, CalmIn, SameIn, with_word, is_other};
+ghost use Rattle.pmem_layout.specs.Numbers.{IsNumber, index_of, base_at, base_bit, in_base};
+ghost use Rattle.pmem_layout.specs.Fields.{tag_word, hot_word, entry_word, head_word, log_count, IsHotWord, IsEntry, IsHead, HasTag, TagUpTo};
+ghost use Rattle.pmem_layout.specs.Owners.{Owner, Format, Fixed, Version, Numbers, Objects, Pages, owner};
+ghost use Rattle.pmem_layout.specs.Rooms.{StoresOnlyIn, CalmIn, FencedIn, LeftIn, SameIn, with_word, is_other};
 
 use crate::format::{EMPTY_WORD, FORMAT_WORD};
 use crate::places::{
     BACKUP_TAGS_AT, BASE_BITS, CORES_AT, FIRST_SPARE_FRAME, FORMAT_AT, FRAME_LINES, HOT_WORDS_AT,
     LOG_ENTRIES_AT, LOG_HEAD_AT, NUMBERS, OBJECT_BASE_AT, OBJECT_SLOTS_AT, OBJECT_TAGS_AT,
     OBJECT_TAGS_END, PAGE_BASE_AT, PAGE_BASE_END, SLOT_LINES, SLOT_WORDS, SLOTS, SPARES,
-    VERSION_AT,
 };
-use sls_base::{FRAME_WORDS, FRAMES, LINE_WORDS, OBJECTS, PAGES, TABLE_WORDS};
+use sls_base::{FRAME_WORDS, FRAMES, LINE_WORDS, OBJECTS, PAGES, TABLE_WORDS, VERSION_AT};
 
 /// The format word is the bytes `TREESLS1`.
 pub fn format_bytes()
@@ -72,13 +73,32 @@ pub fn ends()
 /// What the empty word tells where a tag, a hot word or the head of the log stands.
 pub fn empty_word()
     ensures tag { tag_word Empty ≡ EMPTY_WORD }
-    ensures hot_word { (hot : HotWord) → hot_word hot.tag hot.page ≢ EMPTY_WORD }
-    ensures log_head { head_word 0 0 ≡ EMPTY_WORD }
+    ensures hot_word { (hot : HotWord) → hot_word hot ≢ EMPTY_WORD }
+    ensures log_head { (head : LogHead) → IsHead head → head_word head ≢ EMPTY_WORD }
+{}
+
+/// A word is that of one value alone.
+pub fn words_are_of_one()
+    ensures tags { (a b : Tag) → tag_word a ≡ tag_word b → a ≡ b }
+    ensures hot_words { (a b : HotWord) → IsHotWord a → IsHotWord b → hot_word a ≡ hot_word b → a ≡ b }
+    ensures entries { (a b : LogEntry) → IsEntry a → IsEntry b → entry_word a ≡ entry_word b → a ≡ b }
+    ensures heads { (a b : LogHead) → IsHead a → IsHead b → head_word a ≡ head_word b → a ≡ b }
+{}
+
+/// What tags and heads tell at a version.
+pub fn at_a_version()
+    ensures has_tag { (tag : Tag) (version : ℕ) → HasTag (tag_word tag) version ↔ (tag ≡ Of version) }
+    ensures tag_up_to { (tag : Tag) (version : ℕ) → TagUpTo (tag_word tag) version
+        ↔ ((tagged : ℕ) × (tag ≡ Of tagged) × (tagged ≤ version)) }
+    ensures log { (head : LogHead) → IsHead head → log_count (head_word head) head.version ≡ head.entries }
+    ensures other_log { (head : LogHead) (version : ℕ) → IsHead head → head.version ≢ version
+        → log_count (head_word head) version ≡ 0 }
+    ensures no_log { (version : ℕ) → log_count EMPTY_WORD version ≡ 0 }
 {}
 
 /// Whose each place is.
 pub fn owners()
-    ensures format { owner FORMAT_AT ≡ Fixed }
+    ensures format { owner FORMAT_AT ≡ Format }
     ensures version { owner VERSION_AT ≡ Version }
     ensures cores { owner CORES_AT ≡ Fixed }
     ensures unused { (word : ℕ) → IsUnused word → owner word ≡ Fixed }
@@ -93,6 +113,22 @@ pub fn owners()
     ensures frame { (frame j : ℕ) → owner (frame_at frame + j) ≡ Pages }
 {}
 
+/// Which places an owner has. A word has one owner, so a place is used by that owner alone.
+pub fn places_of_owners()
+    ensures format { (word : ℕ) → owner word ≡ Format → word ≡ FORMAT_AT }
+    ensures version { (word : ℕ) → owner word ≡ Version → word ≡ VERSION_AT }
+    ensures fixed { (word : ℕ) → owner word ≡ Fixed → (word ≡ CORES_AT) ⊎ IsUnused word }
+    ensures numbers { (word : ℕ) → owner word ≡ Numbers → (word ≡ LOG_HEAD_AT)
+        ⊎ (((index : ℕ) × (index < NUMBERS) × (word ≡ base_at index))
+        ⊎ ((entry : ℕ) × (entry < NUMBERS) × (word ≡ log_entry_at entry))) }
+    ensures objects { (word : ℕ) → owner word ≡ Objects
+        → ((id slot : ℕ) × (id < OBJECTS) × (slot < SLOTS) × (word ≡ object_tag_at id slot))
+        ⊎ ((id slot j : ℕ) × (id < OBJECTS) × (slot < SLOTS) × (j < SLOT_WORDS) × (word ≡ object_slot_at id slot + j)) }
+    ensures pages { (word : ℕ) → owner word ≡ Pages → ((page : ℕ) × (page < PAGES) × (word ≡ backup_tag_at page))
+        ⊎ (((spare : ℕ) × (spare < SPARES) × (word ≡ hot_word_at spare))
+        ⊎ ((frame j : ℕ) × (j < FRAME_WORDS) × (word ≡ frame_at frame + j))) }
+{}
+
 /// The bits of the allocation base: those of the objects, and those of the pages. No two numbers have one.
 pub fn base_bits()
     ensures index { (a b : Number) → IsNumber a → IsNumber b → index_of a ≡ index_of b → a ≡ b }
@@ -101,6 +137,16 @@ pub fn base_bits()
     ensures page { (page : ℕ) → (base_at (index_of (Page page)) ≡ PAGE_BASE_AT + page / 64)
         × (base_bit (index_of (Page page)) ≡ page % 64) }
     ensures apart { (a b : ℕ) → base_at a ≡ base_at b → base_bit a ≡ base_bit b → a ≡ b }
+{}
+
+/// The numbers in use after one word of the base became another: the bits of that word are the new ones, and a number
+/// whose bit is as before is in use as before.
+pub fn base_with_word()
+    ensures set { (words : ℕ → ℕ) (index value : ℕ) → in_base (with_word words (base_at index) value) index
+        ≡ bit_at value (base_bit index) }
+    ensures others { (words : ℕ → ℕ) (index value other : ℕ) → other ≢ index
+        → ((bit : ℕ) → bit < BASE_BITS → bit ≢ base_bit index → bit_at value bit ≡ bit_at (words (base_at index)) bit)
+        → in_base (with_word words (base_at index) value) other ≡ in_base words other }
 {}
 
 /// The log's words and the base's are apart.
@@ -163,4 +209,13 @@ pub fn owners_are_apart()
     ensures both { (o : Owner) (f g h : ℕ → Word) → StoresOnlyIn o f g → StoresOnlyIn o g h → StoresOnlyIn o f h }
     ensures word { (o p : Owner) (words : ℕ → ℕ) (at value : ℕ) → owner at ≡ o → is_other p o ≡ true
         → SameIn p words (with_word words at value) }
+{}
+
+/// What is so of all words is so of those of each owner.
+pub fn owners_take_part()
+    ensures calm { (o : Owner) (f g : ℕ → Word) → IsCalm f g → CalmIn o f g }
+    ensures fenced { (o : Owner) (core : ℕ) (f g : ℕ → Word) → IsFenced core f g → FencedIn o core f g }
+    ensures left { (o : Owner) (f : ℕ → Word) (left : ℕ → ℕ) → ((i : ℕ) → Left (f i) (left i)) → LeftIn o f left }
+    ensures fence_is_calm { (o : Owner) (core : ℕ) (f g : ℕ → Word) → FencedIn o core f g → CalmIn o f g }
+    ensures left_before { (o : Owner) (f g : ℕ → Word) (left : ℕ → ℕ) → CalmIn o f g → LeftIn o g left → LeftIn o f left }
 {}

@@ -1,8 +1,9 @@
 //! The log's entries and its head.
 
-ghost use Rattle.std.specs.Prelude.{◌≡◌, ◌<◌, ◌^◌, Some, IfSome};
+ghost use Rattle.std.specs.Prelude.{◌≡◌, ◌<◌, ◌^◌, ◌↔◌, Some, IfSome, IsNone};
 
 use crate::field::bits;
+use crate::format::EMPTY_WORD;
 use crate::number::Number;
 use sls_base::Version;
 
@@ -16,7 +17,7 @@ pub struct LogEntry {
     pub comes: bool,
 }
 
-/// The head of the log: the version at which its entries count, and how many there are.
+/// The head of a log: the version at which its entries count, and how many there are.
 #[derive(Clone, Copy, PartialEq, Eq, Debug)]
 pub struct LogHead {
     pub version: Version,
@@ -25,21 +26,20 @@ pub struct LogHead {
 
 impl LogEntry {
     ghost use Rattle.pmem_layout.specs.declared.log.LogEntry.{LogEntry};
-    ghost use Rattle.pmem_layout.specs.Numbers.{IsNumber};
-    ghost use Rattle.pmem_layout.specs.Fields.{entry_word};
+    ghost use Rattle.pmem_layout.specs.Fields.{entry_word, IsEntry};
 
     /// The word of an entry.
     pub fn to_word(self) -> u64
-        requires { IsNumber self.number }
-        ensures { result ≡ entry_word self.number self.comes }
+        requires { IsEntry self }
+        ensures { result ≡ entry_word self }
     {
         self.number.index() as u64 * 2 + u64::from(self.comes)
     }
 
     /// The entry of a word. It is None exactly where its number is out of range.
     pub fn from_word(word: u64) -> Option<LogEntry>
-        ensures found { IfSome result (λ e. IsNumber e.number × (entry_word e.number e.comes ≡ word)) }
-        ensures only { (e : LogEntry) → IsNumber e.number → entry_word e.number e.comes ≡ word → result ≡ Some e }
+        ensures found { IfSome result (λ entry. IsEntry entry × (entry_word entry ≡ word)) }
+        ensures only { (entry : LogEntry) → IsEntry entry → entry_word entry ≡ word → result ≡ Some entry }
     {
         Some(LogEntry {
             number: Number::from_index((word / 2) as usize)?,
@@ -55,20 +55,23 @@ impl LogHead {
     /// The word of a head.
     pub fn to_word(self) -> u64
         requires { IsHead self }
-        ensures { result ≡ head_word self.version self.entries }
+        ensures { result ≡ head_word self }
     {
         (self.version << COUNT_BITS) + u64::from(self.entries)
     }
 
-    /// The head of a word. Every word is a head's; that of the empty word is of version 0 and has no entries.
-    pub fn from_word(word: u64) -> LogHead
-        ensures in_form { IsHead result }
-        ensures read { head_word result.version result.entries ≡ word }
-        ensures only { (head : LogHead) → IsHead head → head_word head.version head.entries ≡ word → result ≡ head }
+    /// The head of a word. It is None exactly for the empty word, which tells of no log.
+    pub fn from_word(word: u64) -> Option<LogHead>
+        ensures found { IfSome result (λ head. IsHead head × (head_word head ≡ word)) }
+        ensures only { (head : LogHead) → IsHead head → head_word head ≡ word → result ≡ Some head }
+        ensures none { IsNone result ↔ (word ≡ EMPTY_WORD) }
     {
-        LogHead {
+        if word == EMPTY_WORD {
+            return None;
+        }
+        Some(LogHead {
             version: word >> COUNT_BITS,
             entries: bits(word, 0, COUNT_BITS) as u16,
-        }
+        })
     }
 }

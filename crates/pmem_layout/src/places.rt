@@ -25,8 +25,6 @@ pub const SPARES: usize = 32;
 
 /// The format word.
 pub const FORMAT_AT: usize = 0;
-/// The version word.
-pub const VERSION_AT: usize = 1;
 /// The number of cores.
 pub const CORES_AT: usize = 2;
 /// The head of the log.

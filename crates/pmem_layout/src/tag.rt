@@ -1,6 +1,6 @@
 //! Tags.
 
-ghost use Rattle.std.specs.Prelude.{◌≡◌, ◌+◌, ◌<◌, ◌≤◌, ◌^◌, ◌↔◌, ℕ, Some, IfSome, IsTrue};
+ghost use Rattle.std.specs.Prelude.{◌≡◌, ◌+◌, ◌<◌, ◌≤◌, ◌^◌, ◌↔◌, ℕ, Some, IfSome, IsNone, IsTrue};
 
 use crate::format::EMPTY_WORD;
 use sls_base::Version;
@@ -15,7 +15,7 @@ pub enum Tag {
 impl Tag {
     ghost use Rattle.pmem_layout.specs.declared.tag.Tag.{Tag};
     ghost use Rattle.pmem_layout.specs.declared.tag.Tag.TheVariants.{Of};
-    ghost use Rattle.pmem_layout.specs.Fields.{tag_word, IsTag};
+    ghost use Rattle.pmem_layout.specs.Fields.{tag_word, IsTag, TagUpTo};
 
     /// The word of a tag.
     pub fn to_word(self) -> u64
@@ -45,6 +45,7 @@ impl Tag {
     pub fn up_to(self, version: Version) -> Option<Version>
         ensures found { IfSome result (λ tagged. (self ≡ Of tagged) × (tagged ≤ version)) }
         ensures only { (tagged : ℕ) → self ≡ Of tagged → tagged ≤ version → result ≡ Some tagged }
+        ensures none { IsNone result ↔ (TagUpTo (tag_word self) version → ⊥) }
     {
         match self {
             Tag::Of(tagged) if tagged <= version => Some(tagged),

@@ -72,8 +72,15 @@ fn words_are_read_as_what_they_tell(rt: HostRuntime) {
     ] {
         assert_eq!(rt; HotWord::from_word(word), Some(HotWord { tag, page }));
     }
-    for (word, version, entries) in [(0, 0, 0), (0x3_0002, 3, 2), (0xFFFF_FFFF, 0xFFFF, 0xFFFF)] {
-        assert_eq!(rt; LogHead::from_word(word), LogHead { version, entries });
+    for (word, version, entries) in [
+        (1, 0, 1),
+        (0x1_0000, 1, 0),
+        (0x3_0002, 3, 2),
+        (u64::MAX, 0xFFFF_FFFF_FFFF, 0xFFFF),
+    ] {
+        let head = LogHead { version, entries };
+        assert_eq!(rt; LogHead::from_word(word), Some(head));
+        assert_eq!(rt; head.to_word(), word);
     }
     for (word, number, comes) in [
         (25, Number::Object(12), true),
@@ -90,6 +97,7 @@ fn words_of_another_form_tell_nothing(rt: HostRuntime) {
     for word in [0, 0x7FFF, 0x5_0009, 0x5_7FFF, 0x5_8200, 0x5_FFFF] {
         assert_eq!(rt; HotWord::from_word(word), None, "hot word {word}");
     }
+    assert_eq!(rt; LogHead::from_word(0), None);
     for word in [1_280, u64::MAX] {
         assert_eq!(rt; LogEntry::from_word(word), None, "entry {word}");
     }

@@ -1,4 +1,4 @@
-use Rattle.pmem_layout.specs.Owners.{owner_format, owner_version, owner_cores, owner_unused, owner_log_head, owner_base, owner_log_entry, owner_backup_tag, owner_hot_word, owner_object_tag, owner_object_slot, owner_frame}
+use Rattle.pmem_layout.proofs.OwnerLemmas.{owner_format, owner_version, owner_cores, owner_unused, owner_log_head, owner_base, owner_log_entry, owner_backup_tag, owner_hot_word, owner_object_tag, owner_object_slot, owner_frame}
 use Rattle.pmem_layout.proofs.laws.owners.Goals as goal
 
 pub returns-clause-format : goal.returns-clause-format

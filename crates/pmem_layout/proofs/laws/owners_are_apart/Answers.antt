@@ -1,4 +1,4 @@
-use Rattle.pmem_layout.specs.Rooms.{burst_stores}
+use Rattle.pmem_layout.proofs.RoomLemmas.{burst_stores}
 use Rattle.pmem_layout.proofs.laws.owners_are_apart.Goals as goal
 
 pub returns-clause-burst : goal.returns-clause-burst
