@@ -9,7 +9,7 @@ use Rattle.cap_group.specs.Cap.{IsCap}
 use Rattle.kobj_codec.specs.declared.obj.Obj.TheVariants as objs
 use Rattle.kobj_codec.specs.Objects.{IsGroupRec}
 use Rattle.kobj_codec.specs.Records.{IsRecord}
-use Rattle.kobj_codec.specs.Told.{cap_here}
+use Rattle.kobj_codec.proofs.Told.{cap_here}
 
 pub group_in_range : (g : Group) → length g.slots ≡ GROUP_SLOTS → All (λ held. IfSome held IsCap) g.slots → IsGroupRec g
 group_in_range g size all = record {

@@ -9,7 +9,7 @@ use Rattle.kobj_codec.specs.declared.obj.Scheduler.{Scheduler}
 use Rattle.kobj_codec.specs.declared.obj.Obj.TheVariants as objs
 use Rattle.kobj_codec.specs.Objects.{IsThread, IsMemory, IsRing, IsConnection, IsScheduler}
 use Rattle.kobj_codec.specs.Records.{IsRecord, mark, state_number, about, client_number}
-use Rattle.kobj_codec.specs.Told.{mark_small, state_small, client_small}
+use Rattle.kobj_codec.proofs.Told.{mark_small, state_small, client_small}
 
 pub record TellsThread (word : ℕ) (t : Thread) : Type 0 where
   pub group : word / 256 % 256 ≡ t.group

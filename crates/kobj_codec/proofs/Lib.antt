@@ -1,3 +1,7 @@
+pub mod Told
+pub mod Heads
+pub mod Parts
+pub mod Only
 pub mod Lists
 pub mod ReadSoFar
 pub mod Groups

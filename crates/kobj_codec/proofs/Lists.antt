@@ -3,7 +3,7 @@ use Rattle.std.proofs.Common.{◌≡◌, ◌≢◌, ℕ, ◌+◌, ◌<◌, ◌�
 use Rattle.std.proofs.lemmas.List.{get_or_default}
 use Rattle.sls_base.specs.declared.limits.TheConstants.{OBJECTS}
 use Rattle.kobj_codec.specs.Objects.{IsList}
-use Rattle.kobj_codec.specs.Told.{IsListed}
+use Rattle.kobj_codec.proofs.Told.{IsListed}
 
 -- the numbers before a place are those of objects, each once
 pub record AreListed (ids : List ℕ) (n : ℕ) : Type 0 where

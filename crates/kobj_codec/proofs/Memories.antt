@@ -1,5 +1,5 @@
 -- Memory objects.
-use Rattle.std.proofs.Common.{◌≡◌, ℕ, ◌+◌, ◌*◌, ◌/◌, ◌%◌, ◌<◌, ◌∙◌, ap, sym, arith, false, List, length, slice_index, get_or, Some}
+use Rattle.std.proofs.Common.{◌≡◌, ℕ, ◌+◌, ◌*◌, ◌/◌, ◌%◌, ◌<◌, ◌∙◌, ap, sym, arith, List, length, slice_index, get_or, Some}
 use Rattle.std.specs.Prelude.{slice_get}
 use Rattle.std.proofs.lemmas.Option.{slice_get-get_or}
 use Rattle.mem_space.specs.declared.memory.MemPage.{MemPage}
@@ -8,7 +8,7 @@ use Rattle.pmem_layout.specs.Bits.{bits}
 use Rattle.kobj_codec.specs.declared.obj.Obj.TheVariants as objs
 use Rattle.kobj_codec.specs.Objects.{IsMemory, IsPage}
 use Rattle.kobj_codec.specs.Records.{IsRecord, page_number}
-use Rattle.kobj_codec.specs.Told.{memory_told}
+use Rattle.kobj_codec.proofs.Told.{no_page, memory_told}
 
 abbrev pub memory_of : List MemPage → Memory
 memory_of pages = record { pages = record { items = pages } }
@@ -16,9 +16,6 @@ memory_of pages = record { pages = record { items = pages } }
 -- the pages of a memory object in range that the words are the record of
 abbrev pub PagesOf : List ℕ → List MemPage → Type 0
 PagesOf words pages = IsMemory (memory_of pages) × IsRecord (slice_index words) (objs.Memory (memory_of pages))
-
-no_page : MemPage
-no_page = record { page = 0; fresh = false }
 
 -- what is read of a number is the page that it tells of
 pub next_page : (words : List ℕ) (pages : List MemPage) (n number : ℕ) (page : MemPage) → PagesOf words pages → n < length pages

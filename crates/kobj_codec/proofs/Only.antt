@@ -22,12 +22,13 @@ use Rattle.kobj_codec.specs.declared.obj.ConnectionRec.{ConnectionRec}
 use Rattle.kobj_codec.specs.declared.obj.NotificationRec.{NotificationRec}
 use Rattle.kobj_codec.specs.declared.obj.Scheduler.{Scheduler}
 use Rattle.kobj_codec.specs.declared.obj.Obj.{Obj}
+use Rattle.mem_space.specs.Region.{IsRegion}
 use Rattle.kobj_codec.specs.declared.obj.Obj.TheVariants as objs
-use Rattle.kobj_codec.specs.Objects.{IsObj, IsList, IsGroupRec, IsThread, IsRegionRec, IsSpaceRec, IsPage, IsMemory, IsConnection, IsNotification, IsRing, IsOccupant, IsScheduler}
+use Rattle.kobj_codec.specs.Objects.{IsObj, IsList, IsGroupRec, IsThread, IsSpaceRec, IsPage, IsMemory, IsConnection, IsNotification, IsRing, IsOccupant, IsScheduler}
 use Rattle.kobj_codec.specs.Records.{IsRecord, head_word, mark, slot_number, state_number, about, region_word, page_number, core_word, client_number}
-use Rattle.kobj_codec.specs.Told.{mark_small, half_of_register, gets_all, cap_here, group_told, thread_told, memory_told, IsListed, list_told, core_told, queue_told}
-use Rattle.kobj_codec.specs.Heads.{thread_head, ring_head, connection_head, notification_head, memory_head, scheduler_head}
-use Rattle.kobj_codec.specs.Parts.{same_thread, same_connection, same_notification, same_ring, same_scheduler}
+use Rattle.kobj_codec.proofs.Told.{no_page, mark_small, half_of_register, gets_all, cap_here, group_told, thread_told, memory_told, IsListed, list_told, core_told, queue_told}
+use Rattle.kobj_codec.proofs.Heads.{thread_head, ring_head, connection_head, notification_head, memory_head, scheduler_head}
+use Rattle.kobj_codec.proofs.Parts.{same_thread, same_connection, same_notification, same_ring, same_scheduler}
 
 -- Parts.
 
@@ -59,18 +60,17 @@ same_region : {a b c d e p q r s t : ℕ} → a ≡ p → b ≡ q → c ≡ r �
     (Some (record { base = p; count = q; first = r; memory = s; rights = t }))
 same_region a b c d e = rw (a, b, c, d, e) refl
 
-region_only : (a b : Option Region) → IfSome a IsRegionRec → IfSome b IsRegionRec
+region_only : (a b : Option Region) → IfSome a IsRegion → IfSome b IsRegion
     → region_word a ≡ region_word b → a ≡ b
 region_only None None h k e = refl
 region_only None (Some b) h k e = absurd (omega arith)
 region_only (Some a) None h k e = absurd (omega arith)
 region_only (Some a) (Some b) h k e =
-    let p = h.region in let q = k.region in
-    let p1 = p.within_addresses in let q1 = q.within_addresses in
-    let p2 = p.within_memory in let q2 = q.within_memory in
-    let p3 = p.some_page in let q3 = q.some_page in
-    let p4 = p.known_rights in let q4 = q.known_rights in
-    let m = h.memory in let n = k.memory in
+    let p1 = h.within_addresses in let q1 = k.within_addresses in
+    let p2 = h.within_memory in let q2 = k.within_memory in
+    let p3 = h.some_page in let q3 = k.some_page in
+    let p4 = h.known_rights in let q4 = k.known_rights in
+    let m = h.known_memory in let n = k.known_memory in
     let base : a.base ≡ b.base = omega (arith, e, p1, q1, p3, q3) in
     let count : a.count ≡ b.count = omega (arith, e, base, p2, q2, p3, q3) in
     let first : a.first ≡ b.first = omega (arith, e, base, count, p2, q2, p3, q3) in
@@ -173,13 +173,10 @@ space_only a b h k r s =
     let xs = a.regions.items in let ys = b.regions.items in
     let most = h.most in let other = k.most in
     ap (λ (l : List Region). record { regions = record { items = l } }) (same_gets xs ys (λ j. elim (cases_lt j SPACE_REGIONS) [
-      | inl lt ↦ region_only (slice_get xs j) (slice_get ys j) (gets_all IsRegionRec xs h.regions j) (gets_all IsRegionRec ys k.regions j)
+      | inl lt ↦ region_only (slice_get xs j) (slice_get ys j) (gets_all IsRegion xs h.space.regions j) (gets_all IsRegion ys k.space.regions j)
           (sym (r.behind j (omega arith)) ∙ s.behind j (omega arith))
       | inr ge ↦ get_past xs j (omega (arith, ge, most)) ∙ sym (get_past ys j (omega (arith, ge, other)))
     ]))
-
-no_page : MemPage
-no_page = record { page = 0; fresh = false }
 
 memory_only : {words : ℕ → ℕ} (a b : Memory) → IsMemory a → IsMemory b → IsRecord words (objs.Memory a)
     → IsRecord words (objs.Memory b) → a ≡ b

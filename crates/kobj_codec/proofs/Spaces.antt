@@ -4,8 +4,9 @@ use Rattle.std.proofs.lemmas.Bool.{cases_lt}
 use Rattle.sls_base.specs.declared.limits.TheConstants.{SPACE_REGIONS}
 use Rattle.mem_space.specs.declared.region.Region.{Region}
 use Rattle.mem_space.specs.declared.space.Space.{Space}
+use Rattle.mem_space.specs.Region.{IsRegion}
 use Rattle.kobj_codec.specs.declared.obj.Obj.TheVariants as objs
-use Rattle.kobj_codec.specs.Objects.{IsRegionRec, IsSpaceRec}
+use Rattle.kobj_codec.specs.Objects.{IsSpaceRec}
 use Rattle.kobj_codec.specs.Records.{IsRecord}
 
 -- what is read behind the end of a list
@@ -18,7 +19,7 @@ end_of r = r.base + r.count
 
 -- The regions before a place are in form, each behind the one before it, and the last of them ends here.
 pub record EndsAt (regions : List Region) (n end : ℕ) : Type 0 where
-  pub each : (k : ℕ) (d : Region) → k < n → IsRegionRec (get_or regions k d)
+  pub each : (k : ℕ) (d : Region) → k < n → IsRegion (get_or regions k d)
   pub ordered : (a b : ℕ) (d : Region) → a < b → b < n → end_of (get_or regions a d) ≤ (get_or regions b d).base
   pub before : (k : ℕ) (d : Region) → k < n → end_of (get_or regions k d) ≤ end
   pub last : (end ≡ 0) ⊎ ((k : ℕ) × (k < n) × ((d : Region) → end_of (get_or regions k d) ≡ end))
@@ -33,9 +34,9 @@ ends_first regions = record {
 
 -- one region more
 pub ends_more : (regions : List Region) (n end : ℕ) (r : Region) → n < length regions → EndsAt regions n end
-    → ((d : Region) → get_or regions n d ≡ r) → IsRegionRec r → end ≤ r.base → EndsAt regions (n + 1) (end_of r)
+    → ((d : Region) → get_or regions n d ≡ r) → IsRegion r → end ≤ r.base → EndsAt regions (n + 1) (end_of r)
 ends_more regions n end r inside h here form behind = record {
-  each = λ k d lt. below_more (λ i. IsRegionRec (get_or regions i d)) n (λ i low. h.each i d low) (subst IsRegionRec (sym (here d)) form) k lt;
+  each = λ k d lt. below_more (λ i. IsRegion (get_or regions i d)) n (λ i low. h.each i d low) (subst IsRegion (sym (here d)) form) k lt;
   ordered = λ a b d less lt. elim (cases_lt b n) [
     | inl low ↦ h.ordered a b d less low
     | inr high ↦
@@ -58,10 +59,9 @@ ends_more regions n end r inside h here form behind = record {
 pub space_in_range : (s : Space) (end : ℕ) → length s.regions.items ≤ SPACE_REGIONS → EndsAt s.regions.items (length s.regions.items) end → IsSpaceRec s
 space_in_range s end most h = record {
   most = most;
-  regions = λ k d lt. h.each k d lt;
   space = record {
-    regions = λ k d lt. (h.each k d lt).region;
-    rising = λ a b d less lt. let o = h.ordered a b d less lt in let some = (h.each a d (omega arith)).region.some_page in omega (arith, o, some);
+    regions = λ k d lt. h.each k d lt;
+    rising = λ a b d less lt. let o = h.ordered a b d less lt in let some = (h.each a d (omega arith)).some_page in omega (arith, o, some);
     apart = λ a b d less lt page in_a in_b. let o = h.ordered a b d less lt in let one = in_a.1 in let two = in_b.0 in absurd (omega (arith, o, one, two));
   };
 }
@@ -77,7 +77,7 @@ space_behind s n end d inside h i = elim h.last [
       let x = get_or s.regions.items n d in
       let ends = at.2 d in
       let rises = i.space.rising k n d at.1 inside in
-      let some = (i.regions n d inside).region.some_page in
+      let some = (i.space.regions n d inside).some_page in
       elim (cases_lt x.base end) [
         | inl low ↦ absurd (i.space.apart k n d at.1 inside x.base (omega (arith, rises), omega (arith, low, ends)) (omega arith, omega (arith, some)))
         | inr behind ↦ behind

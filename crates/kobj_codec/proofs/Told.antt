@@ -107,6 +107,10 @@ held_at (x ∷ xs) (suc k) = held_at xs k
 pub cap_here : (g : Group) (k : ℕ) → cap_at g k ≡ get_or g.slots k None
 cap_here g k = held_at g.slots k
 
+-- what is read behind the pages of a memory object
+pub no_page : MemPage
+no_page = record { page = 0; fresh = false }
+
 -- What is told of each kind.
 
 pub group_told : {words : ℕ → ℕ} (g : Group) → IsGroupRec g → IsRecord words (objs.Group g) → (j : ℕ)

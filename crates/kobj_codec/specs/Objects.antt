@@ -8,11 +8,9 @@ use Rattle.sls_base.specs.declared.thread.Thread.{Thread}
 use Rattle.sls_base.specs.declared.thread.Ring.{Ring}
 use Rattle.cap_group.specs.declared.group.Group.{Group}
 use Rattle.cap_group.specs.Group.{IsGroup}
-use Rattle.mem_space.specs.declared.region.Region.{Region}
 use Rattle.mem_space.specs.declared.memory.MemPage.{MemPage}
 use Rattle.mem_space.specs.declared.memory.Memory.{Memory}
 use Rattle.mem_space.specs.declared.space.Space.{Space}
-use Rattle.mem_space.specs.Region.{IsRegion}
 use Rattle.mem_space.specs.Space.{IsSpace}
 use Rattle.kobj_codec.specs.declared.obj.ConnectionRec.{ConnectionRec}
 use Rattle.kobj_codec.specs.declared.obj.NotificationRec.{NotificationRec}
@@ -51,14 +49,9 @@ pub record IsThread (t : Thread) : Type 0 where
   pub first : slice_index t.x 0 ≡ 0
   pub fit : (j : ℕ) → slice_index t.x j < 2 ^ 32
 
--- a region in form, of a memory object that there can be
-pub record IsRegionRec (r : Region) : Type 0 where
-  pub region : IsRegion r
-  pub memory : r.memory < OBJECTS
-
+-- a space in form, with as many regions as it may have
 pub record IsSpaceRec (s : Space) : Type 0 where
   pub most : length s.regions.items ≤ SPACE_REGIONS
-  pub regions : All IsRegionRec s.regions.items
   pub space : IsSpace s
 
 abbrev pub IsPage : MemPage → Type 0

@@ -1,6 +1,6 @@
 //! Laws. Each of these functions does nothing: its contract is the law.
 
-ghost use Rattle.std.specs.Prelude.{◌≡◌, ◌+◌, ℕ};
+ghost use Rattle.std.specs.Prelude.{◌≡◌, ◌+◌, ◌<◌, ℕ};
 ghost use Rattle.kobj_codec.specs.declared.obj.Obj.{Obj};
 ghost use Rattle.kobj_codec.specs.Objects.{IsObj};
 ghost use Rattle.kobj_codec.specs.Records.{IsRecord};
@@ -11,6 +11,7 @@ use crate::kinds::{
 };
 use crate::list::LIST_WORDS;
 use crate::space::{COUNT_BITS, FIRST_BITS, MEMORY_BITS, PAGE_BITS, RIGHTS_BITS, UNNAMED_BITS};
+use pmem_layout::SLOT_WORDS;
 
 /// Which number each kind of object has.
 pub fn kind_numbers()
@@ -37,6 +38,11 @@ pub fn region_bits()
 /// How many words a list of threads has.
 pub fn list_words()
     ensures { LIST_WORDS ≡ 17 }
+{}
+
+/// A record is told by the words of a slot: others that are equal there are the record of the same object.
+pub fn words_of_a_slot()
+    ensures { (a b : ℕ → ℕ) (obj : Obj) → ((j : ℕ) → j < SLOT_WORDS → b j ≡ a j) → IsRecord a obj → IsRecord b obj }
 {}
 
 /// Words are the record of one object at most.

@@ -3,8 +3,9 @@
 ghost use Rattle.std.specs.Prelude.{◌≡◌, ◌+◌, ◌<◌, ◌↔◌, IsTrue, IfSome, ℕ, Option, Some, slice_index};
 ghost use Rattle.mem_space.specs.declared.region.Region.{Region};
 ghost use Rattle.mem_space.specs.declared.space.Space.{Space};
+ghost use Rattle.mem_space.specs.Region.{IsRegion};
 ghost use Rattle.kobj_codec.specs.declared.obj.Obj.TheVariants as objs;
-ghost use Rattle.kobj_codec.specs.Objects.{IsSpaceRec, IsRegionRec};
+ghost use Rattle.kobj_codec.specs.Objects.{IsSpaceRec};
 ghost use Rattle.kobj_codec.specs.Records as records;
 ghost use Rattle.kobj_codec.specs.Records.{IsRecord};
 
@@ -51,7 +52,7 @@ pub fn is_space(space: &Space) -> bool
 }
 
 fn is_region(region: &Region) -> bool
-    ensures { IsTrue result ↔ IsRegionRec region.now }
+    ensures { IsTrue result ↔ IsRegion region.now }
 {
     let count = u32::from(region.count);
     count >= 1
@@ -72,7 +73,7 @@ pub fn space_word(space: &Space, i: usize) -> u64
 }
 
 fn region_word(region: &Region) -> u64
-    requires { IsRegionRec region.now }
+    requires { IsRegion region.now }
     ensures { result ≡ records.region_word (Some region.now) }
 {
     u64::from(region.base)
@@ -85,7 +86,7 @@ fn region_word(region: &Region) -> u64
 
 /// What a word tells of a region.
 fn region_of(word: u64) -> Option<Region>
-    ensures { (region : Option Region) → IfSome region IsRegionRec → word ≡ records.region_word region
+    ensures { (region : Option Region) → IfSome region IsRegion → word ≡ records.region_word region
         → result ≡ region }
 {
     if word == 0 {

@@ -1,6 +1,6 @@
 use Rattle.std.proofs.Common.{◌∙◌, ◌+◌, ◌*◌, ℕ, List, ap, arith, slice_index}
-use Rattle.kobj_codec.specs.Heads.{connection_head}
-use Rattle.kobj_codec.specs.Parts.{same_connection}
+use Rattle.kobj_codec.proofs.Heads.{connection_head}
+use Rattle.kobj_codec.proofs.Parts.{same_connection}
 use Rattle.kobj_codec.proofs.connection.read_connection.Goals as goal
 
 pub returns : goal.returns

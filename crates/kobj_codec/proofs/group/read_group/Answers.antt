@@ -2,7 +2,7 @@ use Rattle.std.proofs.Common.{◌≡◌, ◌∙◌, arith, ap, sym, length}
 use Rattle.std.proofs.lemmas.List.{length-set}
 use Rattle.sls_base.specs.declared.limits.TheConstants.{GROUP_SLOTS}
 use Rattle.cap_group.specs.declared.group.Group.{Group}
-use Rattle.kobj_codec.specs.Told.{group_told, cap_here}
+use Rattle.kobj_codec.proofs.Told.{group_told, cap_here}
 use Rattle.kobj_codec.proofs.ReadSoFar.{below_one_more, below_all}
 use Rattle.kobj_codec.proofs.group.read_group.Goals as goal
 

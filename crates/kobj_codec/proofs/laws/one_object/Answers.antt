@@ -1,4 +1,4 @@
-use Rattle.kobj_codec.specs.Only.{record_only}
+use Rattle.kobj_codec.proofs.Only.{record_only}
 use Rattle.kobj_codec.proofs.laws.one_object.Goals as goal
 
 pub returns : goal.returns

@@ -1,6 +1,6 @@
 use Rattle.std.proofs.Common.{◌<◌, ◌∙◌, ℕ, arith, ap, sym, Some, length}
 use Rattle.std.proofs.lemmas.Option.{slice_get-get_or}
-use Rattle.kobj_codec.specs.Told.{list_told}
+use Rattle.kobj_codec.proofs.Told.{list_told}
 use Rattle.kobj_codec.proofs.ReadSoFar.{first_none, first_pushed, first_all}
 use Rattle.kobj_codec.proofs.Lists.{ListOf, list_length}
 use Rattle.kobj_codec.proofs.list.read_list.Goals as goal

@@ -1,6 +1,6 @@
 use Rattle.std.proofs.Common.{◌<◌, ℕ, List, arith, ap, length, slice_index}
 use Rattle.mem_space.specs.declared.memory.MemPage.{MemPage}
-use Rattle.kobj_codec.specs.Heads.{memory_head}
+use Rattle.kobj_codec.proofs.Heads.{memory_head}
 use Rattle.kobj_codec.proofs.ReadSoFar.{first_none, first_pushed, first_all}
 use Rattle.kobj_codec.proofs.Memories.{PagesOf, memory_of, next_page}
 use Rattle.kobj_codec.proofs.memory.read_memory.Goals as goal

@@ -1,6 +1,6 @@
 use Rattle.std.proofs.Common.{arith}
-use Rattle.kobj_codec.specs.Heads.{notification_head}
-use Rattle.kobj_codec.specs.Parts.{same_notification}
+use Rattle.kobj_codec.proofs.Heads.{notification_head}
+use Rattle.kobj_codec.proofs.Parts.{same_notification}
 use Rattle.kobj_codec.proofs.notification.read_notification.Goals as goal
 
 pub returns : goal.returns

@@ -1,6 +1,6 @@
 use Rattle.std.proofs.Common.{◌∙◌, ◌==◌, ℕ, List, ap, arith, slice_index}
-use Rattle.kobj_codec.specs.Heads.{ring_head}
-use Rattle.kobj_codec.specs.Parts.{same_ring}
+use Rattle.kobj_codec.proofs.Heads.{ring_head}
+use Rattle.kobj_codec.proofs.Parts.{same_ring}
 use Rattle.kobj_codec.proofs.ring.read_ring.Goals as goal
 
 pub returns : goal.returns

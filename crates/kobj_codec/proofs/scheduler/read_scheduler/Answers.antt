@@ -2,10 +2,10 @@ use Rattle.std.proofs.Common.{◌≡◌, ◌∙◌, ℕ, List, arith, ap, sym, r
 use Rattle.std.specs.Prelude.{slice_index_or}
 use Rattle.std.proofs.lemmas.List.{length-set}
 use Rattle.sls_base.specs.declared.limits.TheConstants.{CORES}
-use Rattle.kobj_codec.specs.Told.{core_told, queue_told}
+use Rattle.kobj_codec.proofs.Told.{core_told, queue_told}
 use Rattle.kobj_codec.proofs.ReadSoFar.{below_one_more, below_all}
-use Rattle.kobj_codec.specs.Parts.{same_scheduler}
-use Rattle.kobj_codec.specs.Heads.{scheduler_head}
+use Rattle.kobj_codec.proofs.Parts.{same_scheduler}
+use Rattle.kobj_codec.proofs.Heads.{scheduler_head}
 use Rattle.kobj_codec.proofs.scheduler.read_scheduler.Goals as goal
 
 pub loop-core-init : goal.loop-core-init

@@ -1,7 +1,7 @@
 use Rattle.std.proofs.Common.{◌≡◌, ◌+◌, ◌<◌, ◌≤◌, ℕ, List, get_or, length, sym, ap, ◌∙◌, subst, refl, arith}
 use Rattle.std.proofs.lemmas.List.{get_or_default}
 use Rattle.mem_space.specs.declared.region.Region.{Region}
-use Rattle.kobj_codec.specs.Objects.{IsRegionRec}
+use Rattle.mem_space.specs.Region.{IsRegion}
 use Rattle.kobj_codec.proofs.Spaces.{EndsAt, no_region, ends_first, ends_more, space_in_range, space_behind}
 use Rattle.kobj_codec.proofs.space.is_space.Goals as goal
 use Rattle.kobj_codec.proofs.space.is_space.Goals.{then-not-is_region-via-then-not-is_region, then-not-is_region-via-else-not-is_region+then-region-end}
@@ -15,7 +15,7 @@ returns-then-not-is_region c =
       λ no. cc,
       λ i. elim c.then-not-is_region.branch [
         | then-not-is_region-via-then-not-is_region w ↦
-            let yes = c.is_region.ensures.1 (subst (λ (ys : List Region). IsRegionRec (get_or ys n no_region)) (sym shown) (i.regions n no_region inside)) in cc
+            let yes = c.is_region.ensures.1 (subst (λ (ys : List Region). IsRegion (get_or ys n no_region)) (sym shown) (i.space.regions n no_region inside)) in cc
         | then-not-is_region-via-else-not-is_region+then-region-end w ↦
             let behind = subst (λ (ys : List Region). c.loop-region.end ≤ (get_or ys n no_region).base) (sym shown) (space_behind s n c.loop-region.end no_region inside c.loop-region.invariant i) in
             absurd (omega (arith, behind, w.if-region-end.true))

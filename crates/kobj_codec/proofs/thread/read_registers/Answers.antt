@@ -1,7 +1,7 @@
 use Rattle.std.proofs.Common.{◌≡◌, ◌∙◌, arith, ap, sym, refl, get_or}
 use Rattle.std.proofs.lemmas.List.{length-set}
 use Rattle.sls_base.specs.declared.limits.TheConstants.{REGISTERS}
-use Rattle.kobj_codec.specs.Told.{thread_told, half_of_register}
+use Rattle.kobj_codec.proofs.Told.{thread_told, half_of_register}
 use Rattle.kobj_codec.proofs.ReadSoFar.{below_one_more, below_all}
 use Rattle.kobj_codec.proofs.Threads.{first_register}
 use Rattle.kobj_codec.proofs.thread.read_registers.Goals as goal

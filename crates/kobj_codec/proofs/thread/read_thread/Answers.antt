@@ -1,7 +1,7 @@
 use Rattle.std.proofs.Common.{◌∙◌, ℕ, List, ap, arith, slice_index}
-use Rattle.kobj_codec.specs.Told.{thread_told}
-use Rattle.kobj_codec.specs.Heads.{thread_head}
-use Rattle.kobj_codec.specs.Parts.{same_thread}
+use Rattle.kobj_codec.proofs.Told.{thread_told}
+use Rattle.kobj_codec.proofs.Heads.{thread_head}
+use Rattle.kobj_codec.proofs.Parts.{same_thread}
 use Rattle.kobj_codec.proofs.thread.read_thread.Goals as goal
 
 pub returns : goal.returns
