@@ -1,6 +1,7 @@
-//! The objects that are always there, and the first numbers that a program's objects and pages may have.
+//! The objects that are always there, the first numbers that a program's objects and pages may have, and the core that
+//! leads.
 
-use crate::{ObjId, PageNo};
+use crate::{CoreNo, ObjId, PageNo};
 
 /// The group from which every object is reached.
 pub const ROOT_GROUP: ObjId = 0;
@@ -14,3 +15,5 @@ pub const INPUT_RING: ObjId = 6;
 pub const FIRST_PROGRAM_OBJECT: ObjId = 7;
 /// The first page of a program; the pages below it are those of the output rings, in order of channel.
 pub const FIRST_PROGRAM_PAGE: PageNo = 4;
+/// The core that makes every checkpoint.
+pub const LEADER: CoreNo = 0;

@@ -7,7 +7,8 @@ use crate::causes::{
     BAD_TARGET, BREAKPOINT, HALTED, ILLEGAL_WORD, LOST_OBJECT, MISALIGNED, NO_ACCESS,
 };
 use crate::fixed::{
-    FIRST_OUTPUT_RING, FIRST_PROGRAM_OBJECT, FIRST_PROGRAM_PAGE, INPUT_RING, ROOT_GROUP, SCHEDULER,
+    FIRST_OUTPUT_RING, FIRST_PROGRAM_OBJECT, FIRST_PROGRAM_PAGE, INPUT_RING, LEADER, ROOT_GROUP,
+    SCHEDULER,
 };
 use crate::limits::{
     ADDRESS_PAGES, ADDRESSES, CORE_SLICE, CORES, ENTRY_BYTES, FRAME_WORDS, FRAMES, GROUP_SLOTS,
@@ -63,6 +64,7 @@ pub fn memory_sizes()
 pub fn fixed_numbers()
     ensures root { ROOT_GROUP ≡ 0 }
     ensures scheduler { SCHEDULER ≡ 1 }
+    ensures leader { LEADER ≡ 0 }
     ensures outputs { FIRST_OUTPUT_RING ≡ 2 }
     ensures input { INPUT_RING ≡ 6 }
     ensures object { FIRST_PROGRAM_OBJECT ≡ 7 }

@@ -18,7 +18,8 @@ pub use causes::{
 };
 pub use entry::{Entry, Full};
 pub use fixed::{
-    FIRST_OUTPUT_RING, FIRST_PROGRAM_OBJECT, FIRST_PROGRAM_PAGE, INPUT_RING, ROOT_GROUP, SCHEDULER,
+    FIRST_OUTPUT_RING, FIRST_PROGRAM_OBJECT, FIRST_PROGRAM_PAGE, INPUT_RING, LEADER, ROOT_GROUP,
+    SCHEDULER,
 };
 pub use image::{Image, Program, RegionSpec};
 pub use lcg::Lcg;

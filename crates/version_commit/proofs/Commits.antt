@@ -2,7 +2,7 @@
 use Rattle.std.proofs.Common.{◌≡◌, ℕ, ◌⊎◌, inl, inr}
 use Rattle.pmem_model.specs.Words.{Word}
 use Rattle.pmem_model.specs.Events.{WordCalm, Left}
-use Rattle.pmem_layout.specs.declared.places.TheConstants.{VERSION_AT}
+use Rattle.sls_base.specs.declared.limits.TheConstants.{VERSION_AT}
 use Rattle.version_commit.specs.Shows.{IsBetween}
 use Rattle.version_commit.specs.declared.committer.Committer.{Committer}
 use Rattle.version_commit.proofs.OnWays.{way_calm, way_left}

@@ -3,7 +3,7 @@ use Rattle.std.proofs.Common.{◌≡◌, ℕ, ◌⊎◌, inl, inr, ◌∙◌}
 use Rattle.pmem_model.specs.Words.{Word}
 use Rattle.pmem_model.specs.Events.{WordCalm, Left, calm_word}
 use Rattle.version_commit.specs.OnWay.{IsOnWay, kind_before}
-use Rattle.version_commit.specs.declared.step.TheConstants.{LEADER}
+use Rattle.sls_base.specs.declared.fixed.TheConstants.{LEADER}
 use Rattle.version_commit.specs.declared.step.Step.{Step}
 use Rattle.version_commit.specs.declared.step.Step.TheVariants.{Store, Flush, Fence}
 

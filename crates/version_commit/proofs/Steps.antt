@@ -8,7 +8,7 @@ use Rattle.pmem_layout.specs.Places.{line_at}
 use Rattle.pmem_layout.specs.Owners.{Owner, owner}
 use Rattle.pmem_layout.specs.Rooms.{StoresOnlyIn}
 use Rattle.version_commit.specs.OnWay.{IsOnWay}
-use Rattle.version_commit.specs.declared.step.TheConstants.{LEADER}
+use Rattle.sls_base.specs.declared.fixed.TheConstants.{LEADER}
 use Rattle.version_commit.specs.declared.step.Step.TheVariants.{Store, Flush, Fence}
 
 within_one : (at : ℕ) → is_within at 1 at ≡ true

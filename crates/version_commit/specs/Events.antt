@@ -1,7 +1,6 @@
 -- What may befall a memory while a version is being committed.
 use Rattle.std.specs.Prelude.{◌≢◌, ◌<◌}
-use Rattle.sls_base.specs.declared.limits.TheConstants.{CORES, WORDS}
-use Rattle.pmem_layout.specs.declared.places.TheConstants.{VERSION_AT}
+use Rattle.sls_base.specs.declared.limits.TheConstants.{CORES, VERSION_AT, WORDS}
 use Rattle.version_commit.specs.declared.history.Event.{Event}
 use Rattle.version_commit.specs.declared.history.Event.TheVariants.{Step, WriteBack, Flush, Fence, Store, Cut}
 

@@ -2,7 +2,7 @@
 use Rattle.std.specs.Prelude.{◌≡◌, ℕ}
 use Rattle.pmem_model.specs.Words.{Word}
 use Rattle.pmem_model.specs.Events.{Kind, Clean, Over, ReadyOver, WordIs}
-use Rattle.version_commit.specs.declared.step.TheConstants.{LEADER}
+use Rattle.sls_base.specs.declared.fixed.TheConstants.{LEADER}
 use Rattle.version_commit.specs.declared.step.Step.{Step}
 use Rattle.version_commit.specs.declared.step.Step.TheVariants.{Store, Flush, Fence}
 

@@ -1,7 +1,8 @@
 -- What the format word and the version word are.
 use Rattle.std.specs.Prelude.{ℕ, ◌⊎◌}
 use Rattle.pmem_model.specs.Words.{Word}
-use Rattle.pmem_layout.specs.declared.places.TheConstants.{FORMAT_AT, VERSION_AT}
+use Rattle.pmem_layout.specs.declared.places.TheConstants.{FORMAT_AT}
+use Rattle.sls_base.specs.declared.limits.TheConstants.{VERSION_AT}
 use Rattle.version_commit.specs.OnWay.{IsOnWay}
 use Rattle.version_commit.specs.declared.committer.Committer.{Committer}
 

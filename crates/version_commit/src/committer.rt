@@ -9,10 +9,10 @@ ghost use Rattle.pmem_layout.specs.Rooms.{StoresOnlyIn};
 ghost use Rattle.version_commit.specs.OnWay.{next, durable_after, reads_after};
 ghost use Rattle.version_commit.specs.Shows.{FormatShows, VersionShows};
 
-use crate::step::{self, LEADER, Step};
-use pmem_layout::{FORMAT_AT, FORMAT_WORD, VERSION_AT};
+use crate::step::{self, Step};
+use pmem_layout::{FORMAT_AT, FORMAT_WORD};
 use pmem_model::Pmem;
-use sls_base::Version;
+use sls_base::{LEADER, VERSION_AT, Version};
 
 /// How far the format word and the version word came on their way to be durable.
 #[derive(Drop)]
@@ -47,7 +47,7 @@ impl Committer {
         ensures steps { self.new ≡ record self.old { format = next self.old.format } }
         ensures one { nvm.new.ops ≡ count_up nvm.old.ops }
         ensures homes { SameHomes nvm.old nvm.new }
-        ensures rest { StoresOnlyIn owners.Fixed (word_at nvm.old) (word_at nvm.new) }
+        ensures rest { StoresOnlyIn owners.Format (word_at nvm.old) (word_at nvm.new) }
         ensures shows { (was reads : ℕ) → FormatShows self.old (word_at nvm.old) was reads
             → FormatShows self.new (word_at nvm.new) (durable_after self.old.format was reads)
             (reads_after self.old.format FORMAT_WORD reads) }

@@ -7,7 +7,8 @@ ghost use Rattle.pmem_layout.specs.Rooms.{CalmIn, LeftIn};
 ghost use Rattle.version_commit.specs.Shows.{FormatShows, VersionShows, IsBetween};
 ghost use Rattle.version_commit.specs.declared.committer.Committer.{Committer};
 
-use pmem_layout::{FORMAT_AT, VERSION_AT};
+use pmem_layout::FORMAT_AT;
+use sls_base::VERSION_AT;
 
 /// The committed version is the durable value of the version word. Where nothing is stored in that word, it stays or
 /// becomes what the word reads, whichever event that is; and a cut leaves one of the two.
@@ -26,9 +27,9 @@ pub fn format_word()
         → (f FORMAT_AT).durable ≡ was }
     ensures reads { (c : Committer) (f : ℕ → Word) (was reads : ℕ) → FormatShows c f was reads
         → (f FORMAT_AT).cached ≡ reads }
-    ensures calm { (c : Committer) (f g : ℕ → Word) (was reads : ℕ) → CalmIn owners.Fixed f g
+    ensures calm { (c : Committer) (f g : ℕ → Word) (was reads : ℕ) → CalmIn owners.Format f g
         → FormatShows c f was reads → FormatShows c g was reads ⊎ FormatShows c g reads reads }
-    ensures left { (c : Committer) (f : ℕ → Word) (left : ℕ → ℕ) (was reads : ℕ) → LeftIn owners.Fixed f left
+    ensures left { (c : Committer) (f : ℕ → Word) (left : ℕ → ℕ) (was reads : ℕ) → LeftIn owners.Format f left
         → FormatShows c f was reads → (left FORMAT_AT ≡ was) ⊎ (left FORMAT_AT ≡ reads) }
 {}
 

@@ -8,10 +8,7 @@ ghost use Rattle.version_commit.specs.OnWay.{IsOnWay, next, durable_after, reads
 
 use pmem_layout::line_at;
 use pmem_model::Pmem;
-use sls_base::{CoreNo, TABLE_WORDS};
-
-/// The core that makes the words durable.
-pub const LEADER: CoreNo = 0;
+use sls_base::{LEADER, TABLE_WORDS};
 
 /// The operation on a word that comes next.
 #[derive(Clone, Copy)]

@@ -5,9 +5,9 @@ ghost use Rattle.pmem_model.specs.Memory.{AllHome};
 ghost use Rattle.version_commit.specs.Events.{IsPossible};
 
 use super::*;
-use pmem_layout::{CORES_AT, FORMAT_AT, FORMAT_WORD, VERSION_AT};
+use pmem_layout::{CORES_AT, FORMAT_AT, FORMAT_WORD};
 use pmem_model::Pmem;
-use sls_base::{CORES, Lcg, Version, WORDS};
+use sls_base::{CORES, Lcg, VERSION_AT, Version, WORDS};
 use std::alloc::Global;
 use std::process::Abort;
 use std::test::Fail;

@@ -1,6 +1,6 @@
 use Rattle.pmem_model.specs.Memory.{word_at}
 use Rattle.pmem_model.specs.Events.{flush_calm}
-use Rattle.pmem_layout.specs.declared.places.TheConstants.{VERSION_AT}
+use Rattle.sls_base.specs.declared.limits.TheConstants.{VERSION_AT}
 use Rattle.version_commit.proofs.Commits.{between_calm}
 use Rattle.version_commit.proofs.history.happen.Goals as goal
 

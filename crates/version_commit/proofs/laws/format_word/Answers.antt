@@ -1,4 +1,4 @@
-use Rattle.pmem_layout.specs.Owners.{owner_format}
+use Rattle.version_commit.proofs.Places.{owner_format}
 use Rattle.pmem_layout.specs.declared.places.TheConstants.{FORMAT_AT}
 use Rattle.version_commit.proofs.OnWays.{way_calm, way_left}
 use Rattle.version_commit.proofs.laws.format_word.Goals as goal

@@ -1,5 +1,5 @@
-use Rattle.pmem_layout.specs.Owners.{owner_version}
-use Rattle.pmem_layout.specs.declared.places.TheConstants.{VERSION_AT}
+use Rattle.version_commit.proofs.Places.{owner_version}
+use Rattle.sls_base.specs.declared.limits.TheConstants.{VERSION_AT}
 use Rattle.version_commit.proofs.OnWays.{way_calm, way_left}
 use Rattle.version_commit.proofs.laws.version_word.Goals as goal
 

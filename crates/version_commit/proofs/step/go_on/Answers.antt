@@ -1,6 +1,6 @@
 use Rattle.pmem_model.specs.Events.{flush_calm}
 use Rattle.pmem_model.specs.PlaceLaws.{inside_word, inside_line}
-use Rattle.version_commit.specs.declared.step.TheConstants.{LEADER}
+use Rattle.sls_base.specs.declared.fixed.TheConstants.{LEADER}
 use Rattle.version_commit.proofs.Steps.{flushed_on}
 use Rattle.version_commit.proofs.step.go_on.Goals as goal
 

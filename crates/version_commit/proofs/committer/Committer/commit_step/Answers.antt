@@ -1,5 +1,6 @@
-use Rattle.pmem_layout.specs.Owners.{Version, owner_version}
-use Rattle.pmem_layout.specs.declared.places.TheConstants.{VERSION_AT}
+use Rattle.pmem_layout.specs.Owners.{Version}
+use Rattle.version_commit.proofs.Places.{owner_version}
+use Rattle.sls_base.specs.declared.limits.TheConstants.{VERSION_AT}
 use Rattle.version_commit.proofs.Steps.{one_owner}
 use Rattle.version_commit.proofs.committer.Committer.commit_step.Goals as goal
 
