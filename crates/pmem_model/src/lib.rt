@@ -13,6 +13,3 @@ mod pmem;
 
 pub use frame::Frame;
 pub use pmem::Pmem;
-
-#[cfg(test)]
-mod tests;

@@ -1,6 +1,6 @@
 use Rattle.std.proofs.Common.{arith}
 use Rattle.pmem_model.specs.PlaceLaws.{inside_word, inside_line, home_of}
-use Rattle.pmem_model.proofs.tests.happen.Goals as goal
+use Rattle.pmem_tests.proofs.tests.happen.Goals as goal
 
 pub burst-requires-clause-inside : goal.burst-requires-clause-inside
 burst-requires-clause-inside c = inside_word c.in-Store.at

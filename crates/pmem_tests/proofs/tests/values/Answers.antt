@@ -1,6 +1,6 @@
 use Rattle.std.proofs.Common.{arith}
 use Rattle.pmem_model.specs.PlaceLaws.{home_of}
-use Rattle.pmem_model.proofs.tests.values.Goals as goal
+use Rattle.pmem_tests.proofs.tests.values.Goals as goal
 
 pub read-requires-clause-home : goal.read-requires-clause-home
 read-requires-clause-home c = home_of c.args.nvm.now c.args.at c.requires (omega arith)
