@@ -10,7 +10,8 @@ use Rattle.pmem_model.specs.Flushes.{may_be_flushed}
 abbrev pub is_between : ℕ → ℕ → ℕ → Bool
 is_between first past i = nat_le first i && nat_lt i past
 
--- a bank keeps three lists of one length, in 64 parts, and each word of a part that isn't touched is clean and has no mark
+-- a bank keeps three lists of one length, in 64 parts, and each word of a part that isn't touched is clean and has no
+-- mark
 pub record IsKept (cached durable marks : List ℕ) (touched : ℕ) : Type 0 where
   pub parts : part_start (length cached) 64 ≡ length cached
   pub durable_len : length durable ≡ length cached

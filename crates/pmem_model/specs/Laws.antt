@@ -1,7 +1,8 @@
 -- Laws of the memory.
-use Rattle.std.specs.Prelude.{◌≡◌, ℕ, Bool, true, false, ◌-◌, ◌⊎◌}
+use Rattle.std.specs.Prelude.{◌≡◌, ℕ, Bool, true, false, ◌+◌, ◌-◌, ◌⊎◌}
 use Rattle.pmem_model.specs.Words.{Word, is_within, bursts, part_bursts, flushes, fences, writes_back, cuts}
-use Rattle.pmem_model.specs.Events.{WordCalm, WordFenced, Kind, WordIs, settled, in_flight, Left, MayBe}
+use Rattle.pmem_model.specs.Events.{WordCalm, WordFenced, Kind, Cached, WordIs, settled, in_flight, Left, MayBe}
+use Rattle.pmem_model.specs.Maps.{Map, row, IsKnown, AllPlaces, with_kinds, after_burst, IsLeft, after_cut, Weakens, IsRead}
 
 -- A burst that is stopped
 
@@ -58,7 +59,8 @@ pub record CalmEvents : Type 0 where
   pub flush : (f : ℕ → Word) (core at count i : ℕ) → WordCalm (f i) (flushes core at count f i)
   pub fence : (f : ℕ → Word) (core i : ℕ) → WordFenced core (f i) (fences core f i)
   pub write_back : (f : ℕ → Word) (chosen : ℕ → Bool) (i : ℕ) → WordCalm (f i) (writes_back chosen f i)
-  pub burst : (f : ℕ → Word) (at count : ℕ) (value : ℕ → ℕ) (i : ℕ) → is_within at count i ≡ false → WordCalm (f i) (bursts at count value f i)
+  pub burst : (f : ℕ → Word) (at count : ℕ) (value : ℕ → ℕ) (i : ℕ) → is_within at count i ≡ false
+      → WordCalm (f i) (bursts at count value f i)
   pub both : (w u t : Word) → WordCalm w u → WordCalm u t → WordCalm w t
 
 -- what is known of a word outlives calm events
@@ -72,8 +74,67 @@ FlushPutsInFlight = (f : ℕ → Word) (core : ℕ) (k : Kind) (at count i x : �
 
 -- a fence by the core settles what is known of a word
 abbrev pub FenceSettles : Type 0
-FenceSettles = (core : ℕ) (k : Kind) (w u : Word) (x : ℕ) → WordFenced core w u → WordIs core k w x → WordIs core (settled k) u x
+FenceSettles = (core : ℕ) (k : Kind) (w u : Word) (x : ℕ) → WordFenced core w u → WordIs core k w x
+    → WordIs core (settled k) u x
 
 -- a cut leaves of a word what is known of it
 abbrev pub CutLeavesKnown : Type 0
 CutLeavesKnown = (core : ℕ) (k : Kind) (w : Word) (x y : ℕ) → WordIs core k w x → Left w y → MayBe k x y
+
+-- What is known of many words
+
+-- A map outlives events that are calm at its words.
+abbrev pub MapsOutliveCalm : Type 0
+MapsOutliveCalm = (core : ℕ) (m : Map) (f g : ℕ → Word) → AllPlaces (λ p. WordCalm (f p) (g p)) m
+    → IsKnown core m f → IsKnown core m g
+
+-- Flushes and fences by any core, write-backs, and bursts of other words leave it as it is.
+pub record EventsKeepMaps : Type 0 where
+  pub flush : (core c : ℕ) (m : Map) (f : ℕ → Word) (from count : ℕ)
+      → IsKnown core m f → IsKnown core m (flushes c from count f)
+  pub fence : (core c : ℕ) (m : Map) (f : ℕ → Word) → IsKnown core m f → IsKnown core m (fences c f)
+  pub write_back : (core : ℕ) (m : Map) (f : ℕ → Word) (chosen : ℕ → Bool)
+      → IsKnown core m f → IsKnown core m (writes_back chosen f)
+  pub burst : (core : ℕ) (m : Map) (f : ℕ → Word) (from count : ℕ) (value : ℕ → ℕ)
+      → AllPlaces (λ p. is_within from count p ≡ false) m
+      → IsKnown core m f → IsKnown core m (bursts from count value f)
+
+-- A burst changes what is known of its words, and nothing elsewhere.
+abbrev pub BurstChangesMap : Type 0
+BurstChangesMap = (core : ℕ) (m : Map) (f : ℕ → Word) (from count : ℕ) (value : ℕ → ℕ)
+    → IsKnown core m f → IsKnown core (after_burst from count value m) (bursts from count value f)
+
+-- Each word that a burst stores is cached, whatever was known of it.
+abbrev pub BurstIsCached : Type 0
+BurstIsCached = (core : ℕ) (f : ℕ → Word) (from count : ℕ) (value : ℕ → ℕ)
+    → IsKnown core (row from count Cached value) (bursts from count value f)
+
+-- So is each that a copy stores, with the values that are known where it copies from.
+abbrev pub CopyIsCached : Type 0
+CopyIsCached = (core : ℕ) (k : Kind) (f : ℕ → Word) (from to count : ℕ) (value : ℕ → ℕ)
+    → IsRead k → IsKnown core (row from count k value) f
+    → IsKnown core (row to count Cached value) (bursts to count (λ j. (f (from + j)).cached) f)
+
+-- A flush by the core of all words of a map puts them in flight.
+abbrev pub FlushPutsMapInFlight : Type 0
+FlushPutsMapInFlight = (core : ℕ) (m : Map) (f : ℕ → Word) (from count : ℕ)
+    → AllPlaces (λ p. is_within from count p ≡ true) m
+    → IsKnown core m f → IsKnown core (with_kinds in_flight m) (flushes core from count f)
+
+-- A fence by the core settles it.
+abbrev pub FenceSettlesMap : Type 0
+FenceSettlesMap = (core : ℕ) (m : Map) (f g : ℕ → Word) → AllPlaces (λ p. WordFenced core (f p) (g p)) m
+    → IsKnown core m f → IsKnown core (with_kinds settled m) g
+
+-- A cut leaves of its words what the map allows.
+abbrev pub CutLeavesMap : Type 0
+CutLeavesMap = (core : ℕ) (m : Map) (f : ℕ → Word) (left : ℕ → ℕ) → AllPlaces (λ p. Left (f p) (left p)) m
+    → IsKnown core m f → IsLeft m left
+
+-- After a cut all words are clean.
+abbrev pub CutIsClean : Type 0
+CutIsClean = (core : ℕ) (m : Map) (f : ℕ → Word) → IsKnown core (after_cut (λ p. (cuts f p).durable) m) (cuts f)
+
+-- Of fewer places and weaker kinds no less is known.
+abbrev pub LessIsKnown : Type 0
+LessIsKnown = (core : ℕ) (m l : Map) (f : ℕ → Word) → Weakens m l → IsKnown core m f → IsKnown core l f

@@ -8,3 +8,4 @@ pub mod Laws
 pub mod PlaceLaws
 pub mod Marks
 pub mod Events
+pub mod Maps

@@ -75,10 +75,12 @@ bank_size-at at f o is h = rw is (bank_size-in_frame f o h)
 pub inside_table : (at n : ℕ) → at < 17920 → at + n ≤ 17920 → offset_of at + n ≤ bank_size (bank_of at)
 inside_table at n h fits = rw (bank_of-table at h, offset_of-table at h, bank_size-table) fits
 
-pub inside_frame : (f o n : ℕ) → o < 512 → o + n ≤ 512 → offset_of (17920 + 512 * f + o) + n ≤ bank_size (bank_of (17920 + 512 * f + o))
+pub inside_frame : (f o n : ℕ) → o < 512 → o + n ≤ 512 → offset_of (17920 + 512 * f + o) + n ≤ bank_size
+    (bank_of (17920 + 512 * f + o))
 inside_frame f o n h fits = rw (bank_size-in_frame f o h, offset_of-frame f o h) fits
 
-pub inside_at : (at f o n : ℕ) → at ≡ 17920 + 512 * f + o → o < 512 → o + n ≤ 512 → offset_of at + n ≤ bank_size (bank_of at)
+pub inside_at : (at f o n : ℕ) → at ≡ 17920 + 512 * f + o → o < 512 → o + n ≤ 512
+    → offset_of at + n ≤ bank_size (bank_of at)
 inside_at at f o n is h fits = rw is (inside_frame f o n h fits)
 
 -- one word, as a burst asks, and one line, as a flush asks
@@ -91,7 +93,8 @@ unfolding offset_of bank_size bank_of
 inside_line at = grind (arith, nat_tests)
 
 -- each word of the memory is in the table or in one frame
-pub place_cases : (at : ℕ) → at < WORDS → (at < 17920) ⊎ ((f : ℕ) × (o : ℕ) × (f < FRAMES) × (o < 512) × (at ≡ 17920 + 512 * f + o))
+pub place_cases : (at : ℕ) → at < WORDS → (at < 17920) ⊎ ((f : ℕ) × (o : ℕ) × (f < FRAMES) × (o < 512)
+    × (at ≡ 17920 + 512 * f + o))
 place_cases at h =
     ⊎_elim
     (λ (low : at < 17920). inl low)
@@ -124,26 +127,43 @@ frame_home_of m f all h = all (1 + f) (omega arith)
 pub all_home_kept : (old new : Memory) → SameHomes old new → AllHome old → AllHome new
 all_home_kept old new same all = λ k h. same k ∙ all k h
 
-pub home_kept : (old new : Memory) (at : ℕ) → SameHomes old new → IsTrue (is_at_home old at) → IsTrue (is_at_home new at)
+pub home_kept : (old new : Memory) (at : ℕ) → SameHomes old new → IsTrue (is_at_home old at)
+    → IsTrue (is_at_home new at)
 home_kept old new at same h = rw (same (bank_of at)) h
 
-pub frame_home_kept : (old new : Memory) (f : ℕ) → SameHomes old new → IsTrue (is_frame_home old f) → IsTrue (is_frame_home new f)
+pub frame_home_kept : (old new : Memory) (f : ℕ) → SameHomes old new → IsTrue (is_frame_home old f)
+    → IsTrue (is_frame_home new f)
 frame_home_kept old new f same h = rw (same (1 + f)) h
 
 -- a frame that is lent or comes back leaves the homes of other frames
-pub frame_home_but : (old new : Memory) (frame other : ℕ) → SameHomesBut frame old new → other ≢ frame → is_frame_home new other ≡ is_frame_home old other
+pub frame_home_but : (old new : Memory) (frame other : ℕ) → SameHomesBut frame old new → other ≢ frame
+    → is_frame_home new other ≡ is_frame_home old other
 frame_home_but old new frame other same ne = same (1 + other) (omega arith)
 
 -- where the last frame comes back, all are at home
-pub all_home_back : (away new : Memory) (frame : ℕ) → ((k : ℕ) → k < 1 + FRAMES → k ≢ 1 + frame → is_some (bank_at away.banks k) ≡ true)
+pub all_home_back : (away new : Memory) (frame : ℕ) → ((k : ℕ) → k < 1 + FRAMES → k ≢ 1 + frame
+    → is_some (bank_at away.banks k) ≡ true)
     → SameHomesBut frame away new → IsTrue (is_frame_home new frame) → AllHome new
 all_home_back away new frame others same back = λ k lt.
-    ⊎_elim (λ (this : k ≡ 1 + frame). rw this back) (λ (ne : k ≢ 1 + frame). same k ne ∙ others k lt ne) (cases_eq k (1 + frame))
+    ⊎_elim (λ (this : k ≡ 1 + frame). rw this back) (λ (ne : k ≢ 1 + frame). same k ne ∙ others k lt ne)
+    (cases_eq k (1 + frame))
 
 -- a frame that is lent and comes back, where all were at home
-pub all_home_returned : (old away new : Memory) (frame : ℕ) → AllHome old → SameHomesBut frame old away → SameHomesBut frame away new → IsTrue (is_frame_home new frame) → AllHome new
-all_home_returned old away new frame all lent same back = all_home_back away new frame (λ k lt ne. lent k ne ∙ all k lt) same back
+pub all_home_returned : (old away new : Memory) (frame : ℕ) → AllHome old → SameHomesBut frame old away
+    → SameHomesBut frame away new → IsTrue (is_frame_home new frame) → AllHome new
+all_home_returned old away new frame all lent same back = all_home_back away new frame
+    (λ k lt ne. lent k ne ∙ all k lt) same back
 
-pub ruleset places = (bank_of-table, offset_of-table, bank_size-table, bank_of-frame, offset_of-frame, bank_of-first, offset_of-first, bank_size-frame, frame_begin-is)
+pub ruleset places = (
+  bank_of-table,
+  offset_of-table,
+  bank_size-table,
+  bank_of-frame,
+  offset_of-frame,
+  bank_of-first,
+  offset_of-first,
+  bank_size-frame,
+  frame_begin-is,
+)
 
 pub ruleset begins = (bank_of-begin, offset_of-begin, bank_of-within, offset_of-within, bank_size-frame)

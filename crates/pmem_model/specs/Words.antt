@@ -34,7 +34,11 @@ flushed core w = record { cached = w.cached; durable = w.durable; marks = with_c
 
 -- a fence by a core
 abbrev pub fenced : ℕ → Word → Word
-fenced core w = (if has_core w.marks core then record { cached = w.cached; durable = w.cached; marks = without_core w.marks core } else w)
+fenced core w = (if has_core w.marks core then record {
+  cached = w.cached;
+  durable = w.cached;
+  marks = without_core w.marks core;
+} else w)
 
 -- a write-back
 abbrev pub written_back : Word → Word
@@ -56,7 +60,11 @@ bank_len b = length b.cached
 
 -- a word of a bank
 abbrev pub word_in : BankWords → ℕ → Word
-word_in b i = record { cached = slice_index b.cached i; durable = slice_index b.durable i; marks = slice_index b.marks i }
+word_in b i = record {
+  cached = slice_index b.cached i;
+  durable = slice_index b.durable i;
+  marks = slice_index b.marks i;
+}
 
 -- The events on a whole memory, seen as a function from places to words.
 

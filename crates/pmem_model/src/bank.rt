@@ -36,7 +36,8 @@ impl Bank {
     pub fn from_words(alloc: Global, words: &[u64]) -> Result<Bank, AllocError>
         requires { part_start (length words.now) 64 ≡ length words.now }
         ensures len { IfOk result (λ b. bank_len b ≡ length words.now) }
-        ensures words { IfOk result (λ b. (i : ℕ) → word_in b i ≡ record { cached = slice_index words.now i; durable = slice_index words.now i; marks = 0 }) }
+        ensures words { IfOk result (λ b. (i : ℕ) → word_in b i
+            ≡ record { cached = slice_index words.now i; durable = slice_index words.now i; marks = 0 }) }
     {
         Ok(Bank {
             cached: Vec::from_slice(alloc, words)?,
@@ -81,7 +82,8 @@ impl Bank {
         requires some { 0 < length words.now }
         requires fits { at + length words.now ≤ bank_len self.old }
         ensures words { (i : ℕ) → word_in self.new i
-            ≡ (if is_within at (length words.now) i then stored (slice_index words.now (i - at)) (word_in self.old i) else word_in self.old i) }
+            ≡ (if is_within at (length words.now) i then stored (slice_index words.now (i - at)) (word_in self.old i)
+            else word_in self.old i) }
         ensures len { bank_len self.new ≡ bank_len self.old }
     {
         kernel::store(&mut self.cached, at, words);
@@ -94,7 +96,8 @@ impl Bank {
         requires core { core < 8 }
         requires some { 0 < count }
         requires fits { at + count ≤ bank_len self.old }
-        ensures words { (i : ℕ) → word_in self.new i ≡ (if is_within at count i then flushed core (word_in self.old i) else word_in self.old i) }
+        ensures words { (i : ℕ) → word_in self.new i ≡ (if is_within at count i then flushed core (word_in self.old i)
+            else word_in self.old i) }
         ensures len { bank_len self.new ≡ bank_len self.old }
     {
         kernel::mark(&mut self.marks, core, at, count);
@@ -105,7 +108,8 @@ impl Bank {
     pub fn settle(&mut self, core: CoreNo, first: usize, past: usize)
         requires core { core < 8 }
         requires fits { past ≤ bank_len self.old }
-        ensures words { (i : ℕ) → word_in self.new i ≡ (if is_between first past i then fenced core (word_in self.old i) else word_in self.old i) }
+        ensures words { (i : ℕ) → word_in self.new i ≡ (if is_between first past i then fenced core (word_in self.old i)
+            else word_in self.old i) }
         ensures len { bank_len self.new ≡ bank_len self.old }
     {
         kernel::settle(
@@ -153,7 +157,8 @@ impl Bank {
     /// Makes a word's cached value durable.
     pub fn write_back(&mut self, at: usize)
         requires { at < bank_len self.old }
-        ensures words { (i : ℕ) → word_in self.new i ≡ (if is_within at 1 i then written_back (word_in self.old i) else word_in self.old i) }
+        ensures words { (i : ℕ) → word_in self.new i ≡ (if is_within at 1 i then written_back (word_in self.old i)
+            else word_in self.old i) }
         ensures len { bank_len self.new ≡ bank_len self.old }
     {
         self.durable[at] = self.cached[at];
@@ -175,8 +180,10 @@ impl Bank {
 
     /// The least word from `from` on whose cached and durable values differ.
     pub fn dirty_from(&self, from: usize) -> Option<usize>
-        ensures found { IfSome result (λ at. (from ≤ at) × (at < bank_len self.now) × ((word_in self.now at).cached ≢ (word_in self.now at).durable)) }
-        ensures before { IfSome result (λ at. (i : ℕ) → from ≤ i → i < at → (word_in self.now i).cached ≡ (word_in self.now i).durable) }
+        ensures found { IfSome result (λ at. (from ≤ at) × (at < bank_len self.now)
+            × ((word_in self.now at).cached ≢ (word_in self.now at).durable)) }
+        ensures before { IfSome result (λ at. (i : ℕ) → from ≤ i → i < at
+            → (word_in self.now i).cached ≡ (word_in self.now i).durable) }
         ensures none { IfNone result ((i : ℕ) → from ≤ i → (word_in self.now i).cached ≡ (word_in self.now i).durable) }
     {
         kernel::first_difference(&self.cached, &self.durable, self.touched, from)

@@ -58,7 +58,8 @@ pub fn store(banks: &mut Banks, at: usize, words: &[u64])
     requires inside { offset_of at + length words.now ≤ bank_size (bank_of at) }
     requires home { IsTrue (is_some (bank_at banks.old.items (bank_of at))) }
     ensures words { (i : ℕ) → word_among banks.new.items i
-        ≡ (if is_within at (length words.now) i then stored (slice_index words.now (i - at)) (word_among banks.old.items i) else word_among banks.old.items i) }
+        ≡ (if is_within at (length words.now) i then stored (slice_index words.now (i - at))
+        (word_among banks.old.items i) else word_among banks.old.items i) }
     ensures home { (k : ℕ) → is_some (bank_at banks.new.items k) ≡ is_some (bank_at banks.old.items k) }
     ensures banks { AreBanks banks.new.items }
 {
@@ -77,7 +78,8 @@ pub fn mark(banks: &mut Banks, core: CoreNo, at: usize, count: usize)
     requires some { 0 < count }
     requires inside { offset_of at + count ≤ bank_size (bank_of at) }
     requires home { IsTrue (is_some (bank_at banks.old.items (bank_of at))) }
-    ensures words { (i : ℕ) → word_among banks.new.items i ≡ (if is_within at count i then flushed core (word_among banks.old.items i) else word_among banks.old.items i) }
+    ensures words { (i : ℕ) → word_among banks.new.items i
+        ≡ (if is_within at count i then flushed core (word_among banks.old.items i) else word_among banks.old.items i) }
     ensures home { (k : ℕ) → is_some (bank_at banks.new.items k) ≡ is_some (bank_at banks.old.items k) }
     ensures banks { AreBanks banks.new.items }
 {
@@ -93,7 +95,8 @@ pub fn write_back(banks: &mut Banks, at: usize)
     requires banks { AreBanks banks.old.items }
     requires range { at < WORDS }
     requires home { IsTrue (is_some (bank_at banks.old.items (bank_of at))) }
-    ensures words { (i : ℕ) → word_among banks.new.items i ≡ (if is_within at 1 i then written_back (word_among banks.old.items i) else word_among banks.old.items i) }
+    ensures words { (i : ℕ) → word_among banks.new.items i
+        ≡ (if is_within at 1 i then written_back (word_among banks.old.items i) else word_among banks.old.items i) }
     ensures home { (k : ℕ) → is_some (bank_at banks.new.items k) ≡ is_some (bank_at banks.old.items k) }
     ensures banks { AreBanks banks.new.items }
 {
@@ -110,7 +113,8 @@ pub fn settle(banks: &mut Banks, core: CoreNo, at: usize, count: usize)
     requires core { core < 8 }
     requires range { at < WORDS }
     requires inside { offset_of at + count ≤ bank_size (bank_of at) }
-    ensures words { (i : ℕ) → word_among banks.new.items i ≡ (if is_within at count i then fenced core (word_among banks.old.items i) else word_among banks.old.items i) }
+    ensures words { (i : ℕ) → word_among banks.new.items i
+        ≡ (if is_within at count i then fenced core (word_among banks.old.items i) else word_among banks.old.items i) }
     ensures home { (k : ℕ) → is_some (bank_at banks.new.items k) ≡ is_some (bank_at banks.old.items k) }
     ensures banks { AreBanks banks.new.items }
 {
@@ -189,9 +193,12 @@ fn first_place(bank: usize, at: usize) -> usize
 #[tactic(auto, using(crate::proofs::PlaceLemmas::walks))]
 pub fn dirty_from(banks: &Banks, at: usize) -> Option<usize>
     requires { AreBanks banks.now.items }
-    ensures found { IfSome result (λ w. (at ≤ w) × (w < WORDS) × ((word_among banks.now.items w).cached ≢ (word_among banks.now.items w).durable)) }
-    ensures before { IfSome result (λ w. (i : ℕ) → at ≤ i → i < w → (word_among banks.now.items i).cached ≡ (word_among banks.now.items i).durable) }
-    ensures none { IfNone result ((i : ℕ) → at ≤ i → i < WORDS → (word_among banks.now.items i).cached ≡ (word_among banks.now.items i).durable) }
+    ensures found { IfSome result (λ w. (at ≤ w) × (w < WORDS)
+        × ((word_among banks.now.items w).cached ≢ (word_among banks.now.items w).durable)) }
+    ensures before { IfSome result (λ w. (i : ℕ) → at ≤ i → i < w
+        → (word_among banks.now.items i).cached ≡ (word_among banks.now.items i).durable) }
+    ensures none { IfNone result ((i : ℕ) → at ≤ i → i < WORDS
+        → (word_among banks.now.items i).cached ≡ (word_among banks.now.items i).durable) }
 {
     let first = bank_number(at);
     for k in first..banks.len() {
@@ -214,7 +221,8 @@ pub fn copy(banks: &mut Banks, from: usize, to: usize)
     requires from_home { IsTrue (is_some (bank_at banks.old.items (1 + from))) }
     requires to_home { IsTrue (is_some (bank_at banks.old.items (1 + to))) }
     ensures words { (i : ℕ) → word_among banks.new.items i
-        ≡ bursts (bank_start (1 + to)) 512 (λ k. (word_among banks.old.items (bank_start (1 + from) + k)).cached) (word_among banks.old.items) i }
+        ≡ bursts (bank_start (1 + to)) 512 (λ k. (word_among banks.old.items (bank_start (1 + from) + k)).cached)
+        (word_among banks.old.items) i }
     ensures home { (k : ℕ) → is_some (bank_at banks.new.items k) ≡ is_some (bank_at banks.old.items k) }
     ensures banks { AreBanks banks.new.items }
 {
@@ -234,7 +242,8 @@ pub fn copy(banks: &mut Banks, from: usize, to: usize)
 #[tactic(auto, using(crate::proofs::PlaceLemmas::parts))]
 pub fn from_words(alloc: Global, words: &[u64]) -> Result<Banks, AllocError>
     requires { length words.now ≡ WORDS }
-    ensures words { IfOk result (λ banks. (i : ℕ) → word_among banks.items i ≡ record { cached = slice_index words.now i; durable = slice_index words.now i; marks = 0 }) }
+    ensures words { IfOk result (λ banks. (i : ℕ) → word_among banks.items i
+        ≡ record { cached = slice_index words.now i; durable = slice_index words.now i; marks = 0 }) }
     ensures home { IfOk result (λ banks. (k : ℕ) → k < 1 + FRAMES → is_some (bank_at banks.items k) ≡ true) }
     ensures banks { IfOk result (λ banks. AreBanks banks.items) }
 {

@@ -17,7 +17,8 @@ use sls_base::{CoreNo, FRAME_WORDS, FRAMES, LINE_WORDS, WORDS};
 fn settle_ranges(banks: &mut Banks, ranges: &[FlushRange], core: CoreNo)
     requires banks { AreBanks banks.old.items }
     requires core { core < 8 }
-    requires flushed { (i : ℕ) → has_core (word_among banks.old.items i).marks core ≡ true → in_ranges ranges.now i ≡ true }
+    requires flushed { (i : ℕ) → has_core (word_among banks.old.items i).marks core ≡ true
+        → in_ranges ranges.now i ≡ true }
     ensures words { (i : ℕ) → word_among banks.new.items i ≡ fenced core (word_among banks.old.items i) }
     ensures home { (k : ℕ) → is_some (bank_at banks.new.items k) ≡ is_some (bank_at banks.old.items k) }
     ensures banks { AreBanks banks.new.items }
@@ -31,7 +32,8 @@ fn settle_ranges(banks: &mut Banks, ranges: &[FlushRange], core: CoreNo)
 fn settle_flushed(banks: &mut Banks, flushes: &mut Flushes, core: CoreNo)
     requires banks { AreBanks banks.old.items }
     requires core { core < 8 }
-    requires flushed { (i : ℕ) → has_core (word_among banks.old.items i).marks core ≡ true → may_be_flushed flushes.old i ≡ true }
+    requires flushed { (i : ℕ) → has_core (word_among banks.old.items i).marks core ≡ true
+        → may_be_flushed flushes.old i ≡ true }
     ensures words { (i : ℕ) → word_among banks.new.items i ≡ fenced core (word_among banks.old.items i) }
     ensures home { (k : ℕ) → is_some (bank_at banks.new.items k) ≡ is_some (bank_at banks.old.items k) }
     ensures banks { AreBanks banks.new.items }
@@ -64,7 +66,9 @@ pub fn flush(banks: &mut Banks, flushes: &mut FlushesByCore, core: CoreNo, at: u
     requires some { 0 < lines }
     requires inside { offset_of at + 8 * lines ≤ bank_size (bank_of at) }
     requires home { IsTrue (is_some (bank_at banks.old.items (bank_of at))) }
-    ensures words { (i : ℕ) → word_among banks.new.items i ≡ (if is_within at (8 * lines) i then flushed core (word_among banks.old.items i) else word_among banks.old.items i) }
+    ensures words { (i : ℕ) → word_among banks.new.items i
+        ≡ (if is_within at (8 * lines) i then flushed core (word_among banks.old.items i)
+        else word_among banks.old.items i) }
     ensures home { (k : ℕ) → is_some (bank_at banks.new.items k) ≡ is_some (bank_at banks.old.items k) }
     ensures sound { IsSound banks.new.items flushes.new.items }
 {
@@ -79,7 +83,8 @@ fn add_if_marked(flushes: &mut Flushes, marks: u8, core: CoreNo, at: usize)
     requires range { at < WORDS }
     requires inside { offset_of at + 512 ≤ bank_size (bank_of at) }
     ensures had { (i : ℕ) → may_be_flushed flushes.old i ≡ true → may_be_flushed flushes.new i ≡ true }
-    ensures added { (i : ℕ) → has_core marks core ≡ true → is_within at 512 i ≡ true → may_be_flushed flushes.new i ≡ true }
+    ensures added { (i : ℕ) → has_core marks core ≡ true → is_within at 512 i ≡ true
+        → may_be_flushed flushes.new i ≡ true }
 {
     if kernel::is_marked(marks, core) {
         flushes.add(at, FRAME_WORDS);
@@ -92,8 +97,10 @@ fn add_for_all(flushes: &mut FlushesByCore, marks: u8, at: usize)
     requires range { at < WORDS }
     requires inside { offset_of at + 512 ≤ bank_size (bank_of at) }
     ensures cores { length flushes.new.items ≡ 8 }
-    ensures had { (core i : ℕ) (d : Flushes) → core < 8 → may_be_flushed (slice_index_or flushes.old.items core d) i ≡ true → may_be_flushed (slice_index_or flushes.new.items core d) i ≡ true }
-    ensures added { (core i : ℕ) (d : Flushes) → core < 8 → has_core marks core ≡ true → is_within at 512 i ≡ true → may_be_flushed (slice_index_or flushes.new.items core d) i ≡ true }
+    ensures had { (core i : ℕ) (d : Flushes) → core < 8 → may_be_flushed (slice_index_or flushes.old.items core d) i
+        ≡ true → may_be_flushed (slice_index_or flushes.new.items core d) i ≡ true }
+    ensures added { (core i : ℕ) (d : Flushes) → core < 8 → has_core marks core ≡ true → is_within at 512 i ≡ true
+        → may_be_flushed (slice_index_or flushes.new.items core d) i ≡ true }
 {
     for core in 0..8u8 {
         add_if_marked(&mut flushes[core as usize], marks, core, at);
@@ -109,8 +116,10 @@ pub fn put_back(banks: &mut Banks, flushes: &mut FlushesByCore, frame: usize, ba
     requires size { bank_len bank ≡ 512 }
     ensures banks { banks.new.items ≡ slice_set banks.old.items (1 + frame) (Some bank) }
     ensures words { (i : ℕ) → word_among banks.new.items i
-        ≡ (if is_within (bank_start (1 + frame)) 512 i then word_in bank (i - bank_start (1 + frame)) else word_among banks.old.items i) }
-    ensures homes { (k : ℕ) → k ≢ 1 + frame → is_some (bank_at banks.new.items k) ≡ is_some (bank_at banks.old.items k) }
+        ≡ (if is_within (bank_start (1 + frame)) 512 i then word_in bank (i - bank_start (1 + frame))
+        else word_among banks.old.items i) }
+    ensures homes { (k : ℕ) → k ≢ 1 + frame → is_some (bank_at banks.new.items k)
+        ≡ is_some (bank_at banks.old.items k) }
     ensures back { is_some (bank_at banks.new.items (1 + frame)) ≡ true }
     ensures sound { IsSound banks.new.items flushes.new.items }
 {
@@ -128,8 +137,10 @@ pub fn take(banks: &mut Banks, flushes: &FlushesByCore, frame: usize) -> Bank
     ensures size { bank_len result ≡ 512 }
     ensures banks { banks.new.items ≡ slice_set banks.old.items (1 + frame) None }
     ensures lent { (o : ℕ) → o < 512 → word_in result o ≡ word_among banks.old.items (bank_start (1 + frame) + o) }
-    ensures words { (i : ℕ) → word_among banks.new.items i ≡ (if is_within (bank_start (1 + frame)) 512 i then zero_word else word_among banks.old.items i) }
-    ensures homes { (k : ℕ) → k ≢ 1 + frame → is_some (bank_at banks.new.items k) ≡ is_some (bank_at banks.old.items k) }
+    ensures words { (i : ℕ) → word_among banks.new.items i
+        ≡ (if is_within (bank_start (1 + frame)) 512 i then zero_word else word_among banks.old.items i) }
+    ensures homes { (k : ℕ) → k ≢ 1 + frame → is_some (bank_at banks.new.items k)
+        ≡ is_some (bank_at banks.old.items k) }
     ensures away { is_some (bank_at banks.new.items (1 + frame)) ≡ false }
     ensures sound { IsSound banks.new.items flushes.now.items }
 {

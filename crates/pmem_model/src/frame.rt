@@ -48,7 +48,8 @@ impl Frame {
 
     /// Stores the cached words of another frame, and takes all marks away.
     pub fn copy_from(&mut self, source: &Frame)
-        ensures words { (i : ℕ) → word_in self.new.bank i ≡ bursts 0 512 (λ k. (word_in source.now.bank k).cached) (word_in self.old.bank) i }
+        ensures words { (i : ℕ) → word_in self.new.bank i
+            ≡ bursts 0 512 (λ k. (word_in source.now.bank k).cached) (word_in self.old.bank) i }
         ensures ops { self.new.ops ≡ count_up self.old.ops }
     {
         self.bank.store(0, source.bank.cached_words());
@@ -86,9 +87,12 @@ impl Frame {
 
     /// The least word from `at` on whose cached and durable values differ.
     pub fn dirty_from(&self, at: usize) -> Option<usize>
-        ensures found { IfSome result (λ w. (at ≤ w) × (w < 512) × ((word_in self.now.bank w).cached ≢ (word_in self.now.bank w).durable)) }
-        ensures before { IfSome result (λ w. (i : ℕ) → at ≤ i → i < w → (word_in self.now.bank i).cached ≡ (word_in self.now.bank i).durable) }
-        ensures none { IfNone result ((i : ℕ) → at ≤ i → (word_in self.now.bank i).cached ≡ (word_in self.now.bank i).durable) }
+        ensures found { IfSome result (λ w. (at ≤ w) × (w < 512)
+            × ((word_in self.now.bank w).cached ≢ (word_in self.now.bank w).durable)) }
+        ensures before { IfSome result (λ w. (i : ℕ) → at ≤ i → i < w
+            → (word_in self.now.bank i).cached ≡ (word_in self.now.bank i).durable) }
+        ensures none { IfNone result ((i : ℕ) → at ≤ i → (word_in self.now.bank i).cached
+            ≡ (word_in self.now.bank i).durable) }
     {
         self.bank.dirty_from(at)
     }

@@ -91,9 +91,12 @@ pub fn settle(
     requires durable_fits { past ≤ length durable.old }
     requires marks_fit { past ≤ length marks.old }
     ensures durable { (i : ℕ) → slice_index durable.new i
-        ≡ (if is_between first past i then (if has_core (slice_index marks.old i) core then slice_index cached.now i else slice_index durable.old i) else slice_index durable.old i) }
+        ≡ (if is_between first past i then (if has_core (slice_index marks.old i) core then slice_index cached.now i
+        else slice_index durable.old i) else slice_index durable.old i) }
     ensures marks { (i : ℕ) → slice_index marks.new i
-        ≡ (if is_between first past i then (if has_core (slice_index marks.old i) core then without_core (slice_index marks.old i) core else slice_index marks.old i) else slice_index marks.old i) }
+        ≡ (if is_between first past i then (if has_core (slice_index marks.old i) core
+        then without_core (slice_index marks.old i) core else slice_index marks.old i)
+        else slice_index marks.old i) }
 {
     for i in first..past {
         let (value, left) = fenced(cached[i], durable[i], marks[i], core);
@@ -106,7 +109,8 @@ pub fn settle(
 pub fn revert(cached: &mut [u64], durable: &[u64], first: usize, past: usize)
     requires cached_fits { past ≤ length cached.old }
     requires durable_fits { past ≤ length durable.now }
-    ensures { (i : ℕ) → slice_index cached.new i ≡ (if is_between first past i then slice_index durable.now i else slice_index cached.old i) }
+    ensures { (i : ℕ) → slice_index cached.new i ≡ (if is_between first past i then slice_index durable.now i
+        else slice_index cached.old i) }
 {
     for i in first..past {
         cached[i] = durable[i];
@@ -121,7 +125,8 @@ pub fn cut(cached: &mut [u64], durable: &[u64], marks: &mut [u8], touched: u64)
     requires marks_len { length marks.old ≡ length cached.old }
     ensures cached { (i : ℕ) → slice_index cached.new i
         ≡ (if is_touched (length cached.old) touched i then slice_index durable.now i else slice_index cached.old i) }
-    ensures marks { (i : ℕ) → slice_index marks.new i ≡ (if is_touched (length cached.old) touched i then 0 else slice_index marks.old i) }
+    ensures marks { (i : ℕ) → slice_index marks.new i ≡ (if is_touched (length cached.old) touched i then 0
+        else slice_index marks.old i) }
 {
     let mut rest = touched;
     while rest != 0 {
@@ -139,7 +144,8 @@ pub fn is_calm(cached: &[u64], durable: &[u64], marks: &[u8], first: usize, past
     requires cached_fits { past ≤ length cached.now }
     requires durable_fits { past ≤ length durable.now }
     requires marks_fit { past ≤ length marks.now }
-    ensures clean { IsTrue result → (i : ℕ) → is_between first past i ≡ true → slice_index cached.now i ≡ slice_index durable.now i }
+    ensures clean { IsTrue result → (i : ℕ) → is_between first past i ≡ true
+        → slice_index cached.now i ≡ slice_index durable.now i }
     ensures unmarked { IsTrue result → (i : ℕ) → is_between first past i ≡ true → slice_index marks.now i ≡ 0 }
 {
     for i in first..past {
@@ -191,9 +197,12 @@ pub fn still_touched(
 fn difference_between(cached: &[u64], durable: &[u64], first: usize, past: usize) -> Option<usize>
     requires cached_fits { past ≤ length cached.now }
     requires durable_fits { past ≤ length durable.now }
-    ensures found { IfSome result (λ at. (first ≤ at) × (at < past) × (slice_index cached.now at ≢ slice_index durable.now at)) }
-    ensures before { IfSome result (λ at. (i : ℕ) → first ≤ i → i < at → slice_index cached.now i ≡ slice_index durable.now i) }
-    ensures none { IfNone result ((i : ℕ) → first ≤ i → i < past → slice_index cached.now i ≡ slice_index durable.now i) }
+    ensures found { IfSome result (λ at. (first ≤ at) × (at < past)
+        × (slice_index cached.now at ≢ slice_index durable.now at)) }
+    ensures before { IfSome result (λ at. (i : ℕ) → first ≤ i → i < at
+        → slice_index cached.now i ≡ slice_index durable.now i) }
+    ensures none { IfNone result ((i : ℕ) → first ≤ i → i < past
+        → slice_index cached.now i ≡ slice_index durable.now i) }
 {
     for i in first..past {
         if cached[i] != durable[i] {
@@ -208,9 +217,12 @@ fn difference_between(cached: &[u64], durable: &[u64], first: usize, past: usize
 pub fn first_difference(cached: &[u64], durable: &[u64], touched: u64, from: usize) -> Option<usize>
     requires parts { part_start (length cached.now) 64 ≡ length cached.now }
     requires durable_len { length durable.now ≡ length cached.now }
-    requires clean { (i : ℕ) → is_touched (length cached.now) touched i ≡ false → slice_index cached.now i ≡ slice_index durable.now i }
-    ensures found { IfSome result (λ at. (from ≤ at) × (at < length cached.now) × (slice_index cached.now at ≢ slice_index durable.now at)) }
-    ensures before { IfSome result (λ at. (i : ℕ) → from ≤ i → i < at → slice_index cached.now i ≡ slice_index durable.now i) }
+    requires clean { (i : ℕ) → is_touched (length cached.now) touched i ≡ false
+        → slice_index cached.now i ≡ slice_index durable.now i }
+    ensures found { IfSome result (λ at. (from ≤ at) × (at < length cached.now)
+        × (slice_index cached.now at ≢ slice_index durable.now at)) }
+    ensures before { IfSome result (λ at. (i : ℕ) → from ≤ i → i < at
+        → slice_index cached.now i ≡ slice_index durable.now i) }
     ensures none { IfNone result ((i : ℕ) → from ≤ i → slice_index cached.now i ≡ slice_index durable.now i) }
 {
     let mut rest = touched;

@@ -2,6 +2,8 @@
 
 ghost use Rattle.pmem_model.specs.Laws.{StoppedBurstIsWhole, OnlyBurstsLeaveMore, CalmLeavesNoMore, BurstLeaves, CutLeaves, CutCanLeave};
 ghost use Rattle.pmem_model.specs.Laws.{CalmEvents, KnownOutlivesCalm, FlushPutsInFlight, FenceSettles, CutLeavesKnown};
+ghost use Rattle.pmem_model.specs.Laws.{MapsOutliveCalm, EventsKeepMaps, BurstChangesMap, BurstIsCached, CopyIsCached, FlushPutsMapInFlight};
+ghost use Rattle.pmem_model.specs.Laws.{FenceSettlesMap, CutLeavesMap, CutIsClean, LessIsKnown};
 
 /// A cut inside a burst leaves nothing that a cut after it, with chosen write-backs, can't leave.
 pub fn stopped_burst()
@@ -24,4 +26,18 @@ pub fn what_is_known()
     ensures in_flight { FlushPutsInFlight }
     ensures settles { FenceSettles }
     ensures left { CutLeavesKnown }
+{}
+
+/// What is known of many words, by a map: what it outlives, what each event makes of it, and what a cut leaves.
+pub fn maps_of_knowledge()
+    ensures outlives { MapsOutliveCalm }
+    ensures keeps { EventsKeepMaps }
+    ensures burst { BurstChangesMap }
+    ensures stored { BurstIsCached }
+    ensures copied { CopyIsCached }
+    ensures in_flight { FlushPutsMapInFlight }
+    ensures settles { FenceSettlesMap }
+    ensures left { CutLeavesMap }
+    ensures clean { CutIsClean }
+    ensures less { LessIsKnown }
 {}

@@ -56,7 +56,8 @@ pub fn with_words(parts: u64, len: usize, at: usize, count: usize) -> u64
     requires parts { part_start len 64 ≡ len }
     requires some { 0 < count }
     requires fits { at + count ≤ len }
-    ensures { (part : ℕ) → has_part result part ≡ (has_part parts part || (nat_le (part_of len at) part && nat_le part (part_of len (at + count - 1)))) }
+    ensures { (part : ℕ) → has_part result part ≡ (has_part parts part ||
+        (nat_le (part_of len at) part && nat_le part (part_of len (at + count - 1)))) }
 {
     with(parts, number(len, at), number(len, at + count - 1))
 }

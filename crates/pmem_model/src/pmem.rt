@@ -9,13 +9,13 @@ use crate::banks::Banks;
 use crate::flushes::FlushesByCore;
 use crate::frame::Frame;
 use crate::{banks, fences, flushes};
-use sls_base::{CoreNo, FRAME_WORDS, FRAMES, WORDS};
+use sls_base::{CoreNo, FRAME_WORDS, FRAMES, VERSION_AT, WORDS};
 use std::alloc::{AllocError, Global};
 use std::marker::Model;
 
-/// A persistent memory of 558,592 words: the table, words 0 to 17,919, and behind it 1,056 frames of 512 words. A line is
-/// 8 words and begins at a multiple of 8. Cores are numbered from 0 to 7. The table is always at home, a frame until it
-/// is lent.
+/// A persistent memory of 558,592 words: the table, words 0 to 17,919, and behind it 1,056 frames of 512 words. A line
+/// is 8 words and begins at a multiple of 8. Cores are numbered from 0 to 7. The table is always at home, a frame until
+/// it is lent.
 ///
 /// Only `new` and `from_words` take memory. No other call is refused.
 #[derive(Drop)]
@@ -73,7 +73,8 @@ impl Pmem {
     /// These 558,592 words, cached and durable, with no marks, all at home, and counts of 0. Ok, or there is no memory.
     pub fn from_words(alloc: Global, words: &[u64]) -> Result<Pmem, AllocError>
         requires { length words.now ≡ WORDS }
-        ensures words { IfOk result (λ m. (i : ℕ) → word_at m i ≡ record { cached = slice_index words.now i; durable = slice_index words.now i; marks = 0 }) }
+        ensures words { IfOk result (λ m. (i : ℕ) → word_at m i
+            ≡ record { cached = slice_index words.now i; durable = slice_index words.now i; marks = 0 }) }
         ensures homes { IfOk result AllHome }
         ensures counts { IfOk result (λ m. (m.ops ≡ 0) × (m.commits ≡ 0) × (m.cuts ≡ 0)) }
     {
@@ -113,7 +114,8 @@ impl Pmem {
         requires most { length words.now ≤ FRAME_WORDS }
         requires inside { offset_of at + length words.now ≤ bank_size (bank_of at) }
         requires home { IsTrue (is_at_home self.old at) }
-        ensures words { (i : ℕ) → word_at self.new i ≡ bursts at (length words.now) (slice_index words.now) (word_at self.old) i }
+        ensures words { (i : ℕ) → word_at self.new i ≡ bursts at (length words.now) (slice_index words.now)
+            (word_at self.old) i }
         ensures homes { SameHomes self.old self.new }
         ensures counts { self.new ≡ record self.old { banks = self.new.banks; ops = count_up self.old.ops } }
     {
@@ -161,12 +163,13 @@ impl Pmem {
         ensures counts { self.new ≡ record self.old {
           banks = self.new.banks;
           ops = count_up self.old.ops;
-          commits = (if (word_at self.new 1).durable == (word_at self.old 1).durable then self.old.commits else count_up self.old.commits);
+          commits = (if (word_at self.new VERSION_AT).durable == (word_at self.old VERSION_AT).durable then self.old.commits
+              else count_up self.old.commits);
         } }
     {
-        let before = banks::values(&self.banks, 1).1;
+        let before = banks::values(&self.banks, VERSION_AT).1;
         fences::fence(&mut self.banks, &mut self.flushes, core);
-        let after = banks::values(&self.banks, 1).1;
+        let after = banks::values(&self.banks, VERSION_AT).1;
         self.commits = commits_after(self.commits, before, after);
         self.ops = self.ops.saturating_add(1);
     }
@@ -179,12 +182,13 @@ impl Pmem {
         ensures homes { SameHomes self.old self.new }
         ensures counts { self.new ≡ record self.old {
           banks = self.new.banks;
-          commits = (if (word_at self.new 1).durable == (word_at self.old 1).durable then self.old.commits else count_up self.old.commits);
+          commits = (if (word_at self.new VERSION_AT).durable == (word_at self.old VERSION_AT).durable then self.old.commits
+              else count_up self.old.commits);
         } }
     {
-        let before = banks::values(&self.banks, 1).1;
+        let before = banks::values(&self.banks, VERSION_AT).1;
         banks::write_back(&mut self.banks, at);
-        let after = banks::values(&self.banks, 1).1;
+        let after = banks::values(&self.banks, VERSION_AT).1;
         self.commits = commits_after(self.commits, before, after);
     }
 
@@ -201,9 +205,12 @@ impl Pmem {
 
     /// The least word from `at` on, in the table or a frame at home, whose cached and durable values differ.
     pub fn dirty_from(&self, at: usize) -> Option<usize>
-        ensures found { IfSome result (λ w. (at ≤ w) × (w < WORDS) × ((word_at self.now w).cached ≢ (word_at self.now w).durable)) }
-        ensures before { IfSome result (λ w. (i : ℕ) → at ≤ i → i < w → (word_at self.now i).cached ≡ (word_at self.now i).durable) }
-        ensures none { IfNone result ((i : ℕ) → at ≤ i → i < WORDS → (word_at self.now i).cached ≡ (word_at self.now i).durable) }
+        ensures found { IfSome result (λ w. (at ≤ w) × (w < WORDS)
+            × ((word_at self.now w).cached ≢ (word_at self.now w).durable)) }
+        ensures before { IfSome result (λ w. (i : ℕ) → at ≤ i → i < w
+            → (word_at self.now i).cached ≡ (word_at self.now i).durable) }
+        ensures none { IfNone result ((i : ℕ) → at ≤ i → i < WORDS
+            → (word_at self.now i).cached ≡ (word_at self.now i).durable) }
     {
         banks::dirty_from(&self.banks, at)
     }
@@ -218,7 +225,8 @@ impl Pmem {
 
         // The same word by word.
         ensures lent { (o : ℕ) → o < 512 → word_in result.bank o ≡ word_at self.old (frame_begin frame + o) }
-        ensures words { (i : ℕ) → word_at self.new i ≡ (if is_within (frame_begin frame) 512 i then zero_word else word_at self.old i) }
+        ensures words { (i : ℕ) → word_at self.new i ≡ (if is_within (frame_begin frame) 512 i then zero_word
+            else word_at self.old i) }
         ensures homes { SameHomesBut frame self.old self.new }
         ensures away { is_frame_home self.new frame ≡ false }
     {
@@ -237,7 +245,8 @@ impl Pmem {
 
         // The same word by word.
         ensures words { (i : ℕ) → word_at self.new i
-            ≡ (if is_within (frame_begin frame) 512 i then word_in part.bank (i - frame_begin frame) else word_at self.old i) }
+            ≡ (if is_within (frame_begin frame) 512 i then word_in part.bank (i - frame_begin frame)
+            else word_at self.old i) }
         ensures homes { SameHomesBut frame self.old self.new }
         ensures back { IsTrue (is_frame_home self.new frame) }
     {

@@ -1,5 +1,5 @@
 use Rattle.std.proofs.Common.{◌≡◌, ℕ, get_or, cond, true, length}
-use Rattle.pmem_model.specs.Parts.{part_start, has_part, is_touched}
+use Rattle.pmem_model.specs.Parts.{has_part, is_touched}
 use Rattle.pmem_model.proofs.kernel.cut.Given as goal
 
 abbrev pub invariant-loop-rest : goal.invariant-loop-rest

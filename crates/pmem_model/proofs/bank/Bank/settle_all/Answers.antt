@@ -1,12 +1,9 @@
-use Rattle.std.proofs.Common.{◌≡◌, ◌≢◌, ℕ, ◌+◌, ◌<◌, ◌∙◌, ◌==◌, arith, true, false, Bool, sym, ap, subst, length, refl, ⊎_elim, cond, ◌||◌}
-use Rattle.std.proofs.lemmas.Bool.{cases_eq, cases_Bool}
-use Rattle.std.proofs.lemmas.Bool.Decides.{nat_tests}
+use Rattle.std.proofs.Common.{◌≡◌, ℕ, ◌∙◌, arith, true, sym, ap, subst, length, refl}
 use Rattle.pmem_model.specs.Kept.{is_between}
-use Rattle.pmem_model.specs.Marks.{zero_has}
-use Rattle.pmem_model.specs.Words.{BankWords, word_in, has_core, bank_len, fenced}
-use Rattle.pmem_model.specs.Parts.{part_of, part_start, has_part, is_touched}
+use Rattle.pmem_model.specs.Words.{word_in, bank_len}
+use Rattle.pmem_model.specs.Parts.{is_touched}
 use Rattle.pmem_model.proofs.FenceLemmas.{step_words, step_flushed, all_fenced}
-use Rattle.pmem_model.proofs.PartLemmas.{between_part, none_touched, still_in_rest}
+use Rattle.pmem_model.proofs.PartLemmas.{none_touched, still_in_rest}
 use Rattle.pmem_model.proofs.KeptLemmas.{marked_touched}
 use Rattle.pmem_model.proofs.bank.Bank.settle_all.Goals as goal
 
