@@ -1,34 +1,9 @@
--- Bytes before, or behind, bytes that may be told.
-use Rattle.std.proofs.Common.{◌≡◌, ℕ, ◌+◌, min, List, [], ◌++◌, None, Some, length, take, refl, sym, ap, ◌∙◌, append_assoc, append-nil, arith}
-use Rattle.std.proofs.lemmas.List.{take-append-le, take_min}
-use Rattle.std.proofs.Math.Seq.{take-append-add}
+-- Bytes before bytes that may be told.
+use Rattle.std.proofs.Common.{◌≡◌, ℕ, List, ◌++◌, None, Some, refl, ap, append_assoc}
 use Rattle.std.specs.declared.option.Option.{Option}
-use Rattle.std.specs.Io.KnownBytes.{prepend_known, append_known}
-use Rattle.sls_io.specs.Sink.{AppendsPrefix}
+use Rattle.std.specs.Io.KnownBytes.{prepend_known}
 
 -- first some bytes and then others are left, as all of them at once
 pub prepend_known-append : (first second : List ℕ) (known : Option (List ℕ)) → prepend_known (first ++ second) known ≡ prepend_known first (prepend_known second known)
 prepend_known-append first second None = refl
 prepend_known-append first second (Some rest) = ap Some (append_assoc first second rest)
-
--- no bytes were written
-pub append_known-nil : (known : Option (List ℕ)) → append_known known [] ≡ known
-append_known-nil None = refl
-append_known-nil (Some before) = ap Some (append-nil before)
-
--- first some bytes and then others were written, as all of them at once
-pub append_known-append : (known : Option (List ℕ)) (first second : List ℕ) → append_known known (first ++ second) ≡ append_known (append_known known first) second
-append_known-append None first second = refl
-append_known-append (Some before) first second = ap Some (sym (append_assoc before first second))
-
--- first some bytes were written and then a prefix of others, as a prefix of all of them
-pub AppendsPrefix-append : (before now after : Option (List ℕ)) (first second : List ℕ) → now ≡ append_known before first → AppendsPrefix now after second → AppendsPrefix before after (first ++ second)
-AppendsPrefix-append before now after first second whole prefix =
-    let count = prefix.0 in
-    (length first + count, prefix.1 ∙ ap (λ known. append_known known (take count second)) whole ∙ sym (append_known-append before first (take count second)) ∙ ap (append_known before) (sym (take-append-add first second count)))
-
--- a prefix of some bytes, as a prefix of longer ones
-pub AppendsPrefix-longer : (before after : Option (List ℕ)) (bytes more : List ℕ) → AppendsPrefix before after bytes → AppendsPrefix before after (bytes ++ more)
-AppendsPrefix-longer before after bytes more prefix =
-    let count = min prefix.0 (length bytes) in
-    (count, prefix.1 ∙ ap (append_known before) (sym (take-append-le count bytes more (omega arith) ∙ take_min prefix.0 bytes)))

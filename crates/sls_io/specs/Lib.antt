@@ -2,3 +2,4 @@ pub mod Faults
 pub mod MemShelf
 pub mod Shelf
 pub mod Sink
+pub mod Source

@@ -14,6 +14,3 @@ pub use shelf::{Found, Shelf, ShelfError};
 pub use sink::{Sink, SinkError};
 pub use source::{Failed, ReadError, Source, read_to_end};
 pub use standard::{StdSink, StdSource};
-
-#[cfg(test)]
-mod tests;

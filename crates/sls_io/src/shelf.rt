@@ -9,7 +9,7 @@ use std::alloc::{AllocError, AllocFailed};
 use thiserror::Error;
 
 /// What a shelf has under a name: bytes, nothing, or more bytes than were wanted.
-#[derive(Debug, Drop, PartialEq, Eq)]
+#[derive(Drop)]
 pub enum Found {
     Bytes(Vec<u8>),
     Missing,

@@ -1,10 +1,12 @@
 //! Where bytes come from.
 
-ghost use Rattle.std.specs.Prelude.{◌≡◌, ◌≤◌, ◌<◌, ◌+◌, ℕ, List, length, take, drop, is_some, Some, IfOk, OnOk, OnErr, IsErrOf, IfSome};
+ghost use Rattle.std.specs.Prelude.{◌≡◌, ◌≤◌, ◌<◌, ◌+◌, ℕ, List, length, take, drop, is_some, Some};
+ghost use Rattle.std.specs.Prelude.{IfOk, OnOk, OnErr, IsErrOf, IfSome};
 ghost use Rattle.std.specs.declared.option.Option.{Option};
 ghost use Rattle.std.specs.Io.{ReadsAtMost};
 ghost use Rattle.std.specs.Io.KnownBytes.{prepend_known, IsAtEnd};
 ghost use Rattle.sls_io.specs.Faults.{Rose};
+ghost use Rattle.sls_io.specs.Source.{TakesAtMost};
 
 use std::alloc::{AllocError, Global};
 use thiserror::Error;
@@ -77,7 +79,7 @@ const PIECE: usize = 512;
 
 /// Reads `source` to its end, or to the first byte past `limit`: more than `limit` bytes tell that there are too many.
 ///
-/// At an error the bytes that were read before it are lost.
+/// At an error the bytes that were read before it are lost, at most `limit + 1`.
 pub fn read_to_end<S: Source>(
     alloc: Global,
     source: &mut S,
@@ -90,8 +92,7 @@ pub fn read_to_end<S: Source>(
         IfSome (S.left source.old) (λ all. S.left source.new ≡ Some (drop (limit + 1) all))) }
     ensures end { IfOk result (λ bytes.
         length bytes.items ≤ limit → IsAtEnd (S.left source.new) × S.ended source.new) }
-    ensures lost { OnErr result (
-        (taken : List ℕ) × (S.left source.old ≡ prepend_known taken (S.left source.new))) }
+    ensures lost { OnErr result (TakesAtMost (limit + 1) (S.left source.old) (S.left source.new)) }
     ensures told { is_some (S.left source.new) ≡ is_some (S.left source.old) }
 
     // The count of faults never falls, and a failure shows in it.

@@ -82,6 +82,8 @@ impl<W: Write> Sink for StdSink<W> {
 
     ghost faults = { λ s. s.faults };
 
+    ghost wants = { λ _. 0 };
+
     /// Writes piece by piece until the writer has taken all, and again where it was interrupted. That the writer takes
     /// nothing of a piece is an error too.
     fn write(&mut self, bytes: &[u8]) -> Result<(), SinkError>

@@ -2,7 +2,7 @@
 
 ghost use Rattle.std.specs.Prelude.{◌≡◌, ◌≢◌, ◌≤◌, ◌↔◌, ℕ, List, [], Some, IfOk, OnOk, OnErr, IsErrOf, Contains};
 ghost use Rattle.std.specs.BTreeMap.{IsEmpty, IsUnchanged};
-ghost use Rattle.sls_io.specs.Faults.{next_count};
+ghost use Rattle.sls_base.specs.Counts.{one_more};
 ghost use Rattle.sls_io.specs.Shelf.{entry_of, IsFoundFor, IsWithin};
 ghost use Rattle.sls_io.specs.MemShelf.{names_of};
 
@@ -60,14 +60,14 @@ impl Shelf for MemShelf {
         ensures stays { (self.new.names ≡ self.old.names) × (self.new.fails ≡ self.old.fails) }
 
         // The call fails exactly where its number stands in `fails`.
-        ensures calls { self.new.calls ≡ next_count self.old.calls }
+        ensures calls { self.new.calls ≡ one_more self.old.calls }
         ensures fails { IsErrOf result ShelfError.Failed ↔ Contains self.old.fails.items self.new.calls }
 
         // The faults are the calls that failed.
         ensures quiet { OnOk result (self.new.faults ≡ self.old.faults) }
         ensures memory { IsErrOf result ShelfError.Memory → self.new.faults ≡ self.old.faults }
         ensures raised { IsErrOf result ShelfError.Failed →
-            self.new.faults ≡ next_count self.old.faults }
+            self.new.faults ≡ one_more self.old.faults }
         ensures never_falls { self.old.faults ≤ self.new.faults }
         ensures none_fails { self.old.fails.items ≡ [] → self.new.faults ≡ self.old.faults }
     {
@@ -91,14 +91,14 @@ impl Shelf for MemShelf {
         ensures stays { self.new.fails ≡ self.old.fails }
 
         // The call fails exactly where its number stands in `fails`.
-        ensures calls { self.new.calls ≡ next_count self.old.calls }
+        ensures calls { self.new.calls ≡ one_more self.old.calls }
         ensures fails { IsErrOf result ShelfError.Failed ↔ Contains self.old.fails.items self.new.calls }
 
         // The faults are the calls that failed.
         ensures quiet { OnOk result (self.new.faults ≡ self.old.faults) }
         ensures memory { IsErrOf result ShelfError.Memory → self.new.faults ≡ self.old.faults }
         ensures raised { IsErrOf result ShelfError.Failed →
-            self.new.faults ≡ next_count self.old.faults }
+            self.new.faults ≡ one_more self.old.faults }
         ensures never_falls { self.old.faults ≤ self.new.faults }
         ensures none_fails { self.old.fails.items ≡ [] → self.new.faults ≡ self.old.faults }
     {

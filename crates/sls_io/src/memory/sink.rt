@@ -1,7 +1,8 @@
 //! A sink in memory.
 
 ghost use Rattle.std.specs.Prelude.{◌≡◌, ◌≤◌, ◌/◌, ◌++◌, [], length, take, Some, OnOk, IsErr, IsErrOf, Contains};
-ghost use Rattle.sls_io.specs.Faults.{next_count};
+ghost use Rattle.sls_base.specs.Counts.{one_more};
+ghost use Rattle.sls_io.specs.Sink.{wants_after};
 
 use crate::faults::{fails_now, raise};
 use crate::{Sink, SinkError};
@@ -9,14 +10,16 @@ use std::alloc::Global;
 
 /// A sink in memory, which tells the bytes written: they are `bytes`.
 ///
-/// `calls` counts the writes, and `faults` those that failed. A write fails exactly where its number, from 1, stands
-/// in `fails`; both counts stop at `u64::MAX`. A write that fails appends the first half of its bytes, rounded down.
+/// `calls` counts the writes, `faults` those that failed, and `wants` those for which there was no memory; each count
+/// stops at `u64::MAX`. A write fails exactly where its number, from 1, stands in `fails`, unless there is no memory, and
+/// appends the first half of its bytes then, rounded down.
 #[derive(Drop)]
 pub struct MemSink {
     pub bytes: Vec<u8>,
     pub calls: u64,
     pub fails: Vec<u64>,
     pub faults: u64,
+    pub wants: u64,
 }
 
 impl MemSink {
@@ -24,7 +27,7 @@ impl MemSink {
     pub fn new(alloc: Global) -> Self
         ensures empty { result.bytes.items ≡ [] }
         ensures fails { result.fails.items ≡ [] }
-        ensures start { (result.calls ≡ 0) × (result.faults ≡ 0) }
+        ensures start { (result.calls ≡ 0) × (result.faults ≡ 0) × (result.wants ≡ 0) }
     {
         MemSink::failing(Vec::new(alloc))
     }
@@ -33,13 +36,14 @@ impl MemSink {
     pub fn failing(fails: Vec<u64>) -> Self
         ensures empty { result.bytes.items ≡ [] }
         ensures fails { result.fails ≡ fails }
-        ensures start { (result.calls ≡ 0) × (result.faults ≡ 0) }
+        ensures start { (result.calls ≡ 0) × (result.faults ≡ 0) × (result.wants ≡ 0) }
     {
         MemSink {
             bytes: Vec::new(*fails.allocator()),
             calls: 0,
             fails,
             faults: 0,
+            wants: 0,
         }
     }
 }
@@ -48,6 +52,8 @@ impl Sink for MemSink {
     ghost written = { λ s. Some s.bytes.items };
 
     ghost faults = { λ s. s.faults };
+
+    ghost wants = { λ s. s.wants };
 
     fn write(&mut self, bytes: &[u8]) -> Result<(), SinkError>
         ensures appends { OnOk result (self.new.bytes.items ≡ self.old.bytes.items ++ bytes.now) }
@@ -58,7 +64,7 @@ impl Sink for MemSink {
         ensures stays { self.new.fails ≡ self.old.fails }
 
         // The write fails exactly where its number stands in `fails`, unless there is no memory.
-        ensures calls { self.new.calls ≡ next_count self.old.calls }
+        ensures calls { self.new.calls ≡ one_more self.old.calls }
         ensures fails { Contains self.old.fails.items self.new.calls → IsErr result }
         ensures fails_only { IsErrOf result SinkError.Failed →
             Contains self.old.fails.items self.new.calls }
@@ -66,16 +72,23 @@ impl Sink for MemSink {
         // The faults are the writes that failed.
         ensures quiet { OnOk result (self.new.faults ≡ self.old.faults) }
         ensures raised { IsErrOf result SinkError.Failed →
-            self.new.faults ≡ next_count self.old.faults }
+            self.new.faults ≡ one_more self.old.faults }
         ensures never_falls { self.old.faults ≤ self.new.faults }
         ensures none_fails { self.old.fails.items ≡ [] → self.new.faults ≡ self.old.faults }
+
+        // The wants are the writes for which there was no memory.
+        ensures wants { self.new.wants ≡ wants_after result self.old.wants }
     {
-        if fails_now(&mut self.calls, &self.fails) {
-            self.bytes.extend_from_slice(&bytes[..bytes.len() / 2])?;
+        let fails = fails_now(&mut self.calls, &self.fails);
+        let taken = if fails { bytes.len() / 2 } else { bytes.len() };
+        let Ok(()) = self.bytes.extend_from_slice(&bytes[..taken]) else {
+            raise(&mut self.wants);
+            return Err(SinkError::Memory);
+        };
+        if fails {
             raise(&mut self.faults);
             return Err(SinkError::Failed);
         }
-        self.bytes.extend_from_slice(bytes)?;
         Ok(())
     }
 }

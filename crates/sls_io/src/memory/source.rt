@@ -1,7 +1,8 @@
 //! A source in memory.
 
 ghost use Rattle.std.specs.Prelude.{◌≡◌, ◌≤◌, ◌<◌, ◌+◌, ◌-◌, ◌↔◌, ℕ, [], length, take, drop, min, Some, IfOk, OnOk, OnErr, IsErr, Contains, ◌++◌};
-ghost use Rattle.sls_io.specs.Faults.{next_count, Rose};
+ghost use Rattle.sls_base.specs.Counts.{one_more};
+ghost use Rattle.sls_io.specs.Faults.{Rose};
 
 use crate::faults::{fails_now, raise};
 use crate::{Failed, Source};
@@ -63,12 +64,12 @@ impl Source for MemSource {
         ensures stays { (self.new.bytes ≡ self.old.bytes) × (self.new.fails ≡ self.old.fails) }
 
         // The read fails exactly where its number stands in `fails`.
-        ensures calls { self.new.calls ≡ next_count self.old.calls }
+        ensures calls { self.new.calls ≡ one_more self.old.calls }
         ensures fails { IsErr result ↔ Contains self.old.fails.items self.new.calls }
 
         // The faults are the reads that failed.
         ensures quiet { OnOk result (self.new.faults ≡ self.old.faults) }
-        ensures raised { OnErr result (self.new.faults ≡ next_count self.old.faults) }
+        ensures raised { OnErr result (self.new.faults ≡ one_more self.old.faults) }
         ensures never_falls { self.old.faults ≤ self.new.faults }
         ensures none_fails { self.old.fails.items ≡ [] → self.new.faults ≡ self.old.faults }
     {

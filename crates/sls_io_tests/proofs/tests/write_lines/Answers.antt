@@ -3,8 +3,8 @@ use Rattle.std.proofs.lemmas.List.Concat.{flat_map-append}
 use Rattle.std.proofs.lemmas.Result.{err_from_is_err_and}
 use Rattle.std.proofs.Math.Seq.{split_at}
 use Rattle.std.specs.List.{flat_map}
-use Rattle.sls_io.proofs.KnownBytes.{AppendsPrefix-append, AppendsPrefix-longer}
-use Rattle.sls_io.proofs.tests.write_lines.Goals as goal
+use Rattle.sls_io_tests.proofs.KnownBytes.{AppendsPrefix-append, AppendsPrefix-longer}
+use Rattle.sls_io_tests.proofs.tests.write_lines.Goals as goal
 
 -- the text is the lines before, this line, and the lines after
 text_around : (lines : List (Bor (List ℕ))) (at : ℕ) (other : Bor (List ℕ)) → at < length lines → flat_map (λ line. line.now) lines

@@ -2,9 +2,12 @@ ghost use Rattle.std.specs.Prelude.{◌≡◌, ◌≤◌, OnOk, IsErrOf};
 ghost use Rattle.std.specs.List.{flat_map};
 ghost use Rattle.std.specs.Io.KnownBytes.{append_known};
 ghost use Rattle.sls_io.specs.Faults.{Rose};
-ghost use Rattle.sls_io.specs.Sink.{AppendsPrefix};
+ghost use Rattle.sls_io.specs.Sink.{AppendsPrefix, wants_after};
 
-use super::*;
+use sls_io::{
+    Failed, Found, MemShelf, MemSink, MemSource, ReadError, Shelf, ShelfError, Sink, SinkError, Source, StdSink, StdSource,
+    read_to_end,
+};
 use std::io;
 use std::io::{ErrorKind, Read, Write};
 use std::test::Fail;
@@ -17,6 +20,7 @@ fn write_lines<O: Sink>(out: &mut O, lines: &[&[u8]]) -> Result<(), SinkError>
         IsErrOf result SinkError.Failed → AppendsPrefix (O.written out.old) (O.written out.new) text }
     ensures never_falls { O.faults out.old ≤ O.faults out.new }
     ensures failed { IsErrOf result SinkError.Failed → Rose (O.faults out.old) (O.faults out.new) }
+    ensures wants { O.wants out.new ≡ wants_after result (O.wants out.old) }
 {
     for line in lines {
         out.write(line)?;
