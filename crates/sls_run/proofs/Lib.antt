@@ -5,3 +5,4 @@ pub mod Jobs
 pub mod Texts
 pub mod Told
 pub mod Chosen
+pub mod Wants

@@ -11,7 +11,8 @@ use Rattle.job_script.specs.Grammar.{Good, Faulty, verdict}
 use Rattle.sls_run.specs.declared.status.Status.{Status}
 use Rattle.sls_run.specs.declared.status.Status.TheVariants as status
 use Rattle.sls_run.specs.declared.report.Printed.{Printed}
-use Rattle.sls_run.specs.Job.{LeavesText, LeavesRun, LastLine, TakesAtMost}
+use Rattle.sls_io.specs.Source.{TakesAtMost}
+use Rattle.sls_run.specs.Job.{LeavesText, LeavesRun, LastLine}
 
 long_verdict : (text : List ℕ) → 65536 < length text → verdict text ≡ Faulty 0 TooLong
 unfolding verdict
@@ -57,12 +58,3 @@ takes_text (Some all) left_after told rest = record {
   few = let e = length-take 65537 all in omega arith;
   first = rw rest (ap Some (sym (take-append-drop 65537 all)));
 }
-
--- a last line of another status than these two
-pub other_status : (wanted : Status) (last : Printed) (old new : Option (List ℕ)) (ended : Status) → LastLine wanted last old new ended → wanted ≢ status.Done → wanted ≢ status.BadJob → (ended ≡ status.Done) ⊎ (ended ≡ status.BadJob) → ⊥
-other_status wanted last old new status.Done is done bad either = done is.0
-other_status wanted last old new status.BadJob is done bad either = bad is.0
-other_status wanted last old new status.Usage is done bad either = elim either [ inl e ↦ cc | inr e ↦ cc ]
-other_status wanted last old new status.ReadFault is done bad either = elim either [ inl e ↦ cc | inr e ↦ cc ]
-other_status wanted last old new status.WriteFault is done bad either = elim either [ inl e ↦ cc | inr e ↦ cc ]
-other_status wanted last old new status.Memory is done bad either = elim either [ inl e ↦ cc | inr e ↦ cc ]

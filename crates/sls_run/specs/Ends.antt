@@ -1,6 +1,7 @@
 -- How a run of a machine ends before the job does, and what its turns do to what it shows.
 use Rattle.std.specs.Prelude.{◌≡◌, ◌<◌, ℕ, List, ◌∷◌, ◌++◌, Option}
 use Rattle.std.specs.Io.KnownBytes.{append_known}
+use Rattle.sls_base.specs.Counts.{one_more}
 use Rattle.sls_io.specs.Sink.{AppendsPrefix}
 use Rattle.sls_io.specs.declared.sink.SinkError.TheVariants.{Failed, Memory}
 use Rattle.pmem_model.specs.Memory as memory
@@ -43,6 +44,12 @@ abbrev pub PartWritten : BreakCause → Option (List ℕ) → Option (List ℕ) 
 PartWritten (NotWritten Failed) old new line = AppendsPrefix old new (line_text line)
 PartWritten (NotWritten Memory) old new line = SinkHasNoMemory old new
 PartWritten NotLit old new line = (version : ℕ) × (line ≡ Up version) × (new ≡ old)
+
+-- how often the sink had no memory, behind a break: once more where that is its cause
+abbrev pub wants_behind : BreakCause → ℕ → ℕ
+wants_behind (NotWritten Failed) wants = wants
+wants_behind (NotWritten Memory) wants = one_more wants
+wants_behind NotLit wants = wants
 
 -- The run broke at a line that it was to print: the lines before it were written, and at most a part of it; and the
 -- durable words stand for the saved copy of the world at that line.

@@ -1,6 +1,6 @@
 -- What a run of a job leaves, by the status that it ends with.
-use Rattle.std.specs.Prelude.{◌≡◌, ◌⊎◌, ◌≤◌, ℕ, length, List, [], ◌∷◌, Option, codes, string_bytes, String, IfSome}
-use Rattle.std.specs.Io.KnownBytes.{append_known, prepend_known, IsAtEnd}
+use Rattle.std.specs.Prelude.{◌≡◌, ◌⊎◌, ℕ, List, [], ◌∷◌, Option, codes, string_bytes, String, IfSome}
+use Rattle.std.specs.Io.KnownBytes.{append_known, IsAtEnd}
 use Rattle.pmem_model.specs.Memory as memory
 use Rattle.sls_io.specs.Faults.{Rose}
 use Rattle.sls_io.specs.Sink.{AppendsPrefix}
@@ -47,6 +47,28 @@ LastLine wanted last old new status.Usage = (wanted ≡ status.Usage) × (new �
 LastLine wanted last old new status.BadJob = (wanted ≡ status.BadJob) × (new ≡ append_known old (line_text last))
 LastLine wanted last old new status.ReadFault = (wanted ≡ status.ReadFault) × (new ≡ append_known old (line_text last))
 
+-- The last line of a status was written whole, or its write failed, or the sink had no memory for it, which is counted.
+abbrev pub LastWants : Status → Printed → (old new : Option (List ℕ)) → (wants wants_after : ℕ) → Status → Type 0
+LastWants wanted last old new wants wants_after ended =
+    (ended ≡ status.Memory) × (wants_after ≡ one_more wants)
+    ⊎ ((ended ≡ status.WriteFault) × (wants_after ≡ wants)
+    ⊎ (ended ≡ wanted) × (wants_after ≡ wants) × (new ≡ append_known old (line_text last)))
+
+-- What was written behind what stood there ends with this line.
+abbrev pub EndsWith : Option (List ℕ) → Option (List ℕ) → Printed → Type 0
+EndsWith old new last = (before : List ℕ) × (new ≡ append_known (append_known old before) (line_text last))
+
+-- Want of memory is told: by the sink's count where the sink had none for a line, and else by the line `memory`, which is
+-- the last. With any other status the sink had memory for each line.
+abbrev pub TellsWant : Status → (old new : Option (List ℕ)) → (wants wants_after : ℕ) → Type 0
+TellsWant status.Memory old new wants wants_after =
+    (wants_after ≡ one_more wants) ⊎ (wants_after ≡ wants) × EndsWith old new line.Memory
+TellsWant status.Done old new wants wants_after = wants_after ≡ wants
+TellsWant status.Usage old new wants wants_after = wants_after ≡ wants
+TellsWant status.BadJob old new wants wants_after = wants_after ≡ wants
+TellsWant status.ReadFault old new wants wants_after = wants_after ≡ wants
+TellsWant status.WriteFault old new wants wants_after = wants_after ≡ wants
+
 -- the run broke where there was no memory to light the machine again, and the line `memory` follows
 pub record BreaksInMemory
     (lines : List Line) (old new : Option (List ℕ)) (nvm : memory.Memory) (ended : Status) : Type 0 where
@@ -83,12 +105,6 @@ pub record EndsAt
     : Type 0 where
   pub last_line : LastLine wanted last old new ended
   pub memory_stays : nvm ≡ came
-
--- Of what a source tells some first bytes were taken, at most so many.
-pub record TakesAtMost (most : ℕ) (left left_after : Option (List ℕ)) : Type 0 where
-  pub taken : List ℕ
-  pub few : length taken ≤ most
-  pub first : left ≡ prepend_known taken left_after
 
 -- A text was read that says this, which is what the source's text says where that is told.
 pub record IsRead (left : Option (List ℕ)) (said : Verdict) : Type 0 where

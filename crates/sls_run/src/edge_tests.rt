@@ -18,7 +18,7 @@ const REPORT: &[u8] = b"commit 1\nup 1\ndone\n";
 /// The line of a run that finds no memory.
 const MEMORY: &[u8] = b"memory\n";
 
-/// A sink that answers the write with one number, from 1, that it has no memory, and counts the writes.
+/// A sink that answers the write with one number, from 1, that it has no memory, and counts the writes and its wants.
 #[derive(Drop)]
 struct NoMemoryAt {
     sink: MemSink,
@@ -43,9 +43,12 @@ impl Sink for NoMemoryAt {
 
     ghost faults = { λ s. s.sink.faults };
 
+    ghost wants = { λ s. s.sink.wants };
+
     fn write(&mut self, bytes: &[u8]) -> Result<(), SinkError> {
         self.writes = self.writes.saturating_add(1);
         if self.writes == self.number {
+            self.sink.wants = self.sink.wants.saturating_add(1);
             return Err(SinkError::Memory);
         }
         self.sink.write(bytes)
@@ -75,6 +78,7 @@ fn nothing_follows_a_line_that_the_sink_has_no_memory_for(rt: HostRuntime) -> Re
     assert!(rt; status == Status::Memory);
     assert_eq!(rt; out.sink.bytes.as_slice(), b"commit 1\n".as_slice());
     assert_eq!(rt; out.writes, 2);
+    assert_eq!(rt; out.sink.wants, 1);
     Ok(())
 }
 
@@ -90,6 +94,7 @@ fn nothing_follows_the_line_of_a_status(rt: HostRuntime) -> Result<(), Fail> {
     assert!(rt; status == Status::Memory);
     assert!(rt; full.sink.bytes.is_empty());
     assert_eq!(rt; full.writes, 1);
+    assert_eq!(rt; full.sink.wants, 1);
     Ok(())
 }
 
@@ -99,6 +104,7 @@ fn want_of_memory_is_told(rt: HostRuntime) -> Result<(), Fail> {
     let status = no_memory(&mut out);
     assert!(rt; status == Status::Memory);
     assert_eq!(rt; out.bytes.as_slice(), MEMORY);
+    assert_eq!(rt; out.wants, 0);
     Ok(())
 }
 

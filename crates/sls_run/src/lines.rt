@@ -11,7 +11,7 @@ ghost use Rattle.sls_kernel.specs.Shows.{Shows, StandsFor, durable_words};
 ghost use Rattle.std.specs.List.{AllByRecursion};
 ghost use Rattle.sls_run.specs.Ends.{HasChannels};
 ghost use Rattle.sls_run.specs.Report.{line_text, prints_of, after, all_prints, world_after, take_prints, taken};
-ghost use Rattle.sls_run.specs.Ends.{BreaksAt, Ran, PartWritten};
+ghost use Rattle.sls_run.specs.Ends.{BreaksAt, Ran, PartWritten, wants_behind};
 
 use crate::drive;
 use crate::report::{Printed, print};
@@ -49,6 +49,8 @@ fn say<O: Sink>(out: &mut O, line: Printed, machine: Machine) -> Result<Machine,
         → StandsFor (durable_words broken.nvm) w) }
     ensures cause { IfErr result (λ broken. broken.cause ≡ BreakCause.NotWritten SinkError.Failed
         → Rose (O.faults out.old) (O.faults out.new)) }
+    ensures no_want { OnOk result (O.wants out.new ≡ O.wants out.old) }
+    ensures want { IfErr result (λ broken. O.wants out.new ≡ wants_behind broken.cause (O.wants out.old)) }
     ensures told { is_some (O.written out.new) ≡ is_some (O.written out.old) }
     ensures never_falls { O.faults out.old ≤ O.faults out.new }
 {
@@ -77,6 +79,8 @@ fn take<O: Sink>(
         → BreaksAt broken.cause (O.written out.old) (O.written out.new) broken.nvm (take_prints count channel w)) }
     ensures cause { IfErr result (λ broken. broken.cause ≡ BreakCause.NotWritten SinkError.Failed
         → Rose (O.faults out.old) (O.faults out.new)) }
+    ensures no_want { OnOk result (O.wants out.new ≡ O.wants out.old) }
+    ensures want { IfErr result (λ broken. O.wants out.new ≡ wants_behind broken.cause (O.wants out.old)) }
     ensures told { is_some (O.written out.new) ≡ is_some (O.written out.old) }
     ensures never_falls { O.faults out.old ≤ O.faults out.new }
 {
@@ -110,6 +114,8 @@ fn run_line<O: Sink>(
         → BreaksAt broken.cause (O.written out.old) (O.written out.new) broken.nvm (prints_of line w)) }
     ensures cause { IfErr result (λ broken. broken.cause ≡ BreakCause.NotWritten SinkError.Failed
         → Rose (O.faults out.old) (O.faults out.new)) }
+    ensures no_want { OnOk result (O.wants out.new ≡ O.wants out.old) }
+    ensures want { IfErr result (λ broken. O.wants out.new ≡ wants_behind broken.cause (O.wants out.old)) }
     ensures told { is_some (O.written out.new) ≡ is_some (O.written out.old) }
     ensures never_falls { O.faults out.old ≤ O.faults out.new }
 {
@@ -159,6 +165,8 @@ pub fn run_lines<O: Sink>(
         → BreaksAt broken.cause (O.written out.old) (O.written out.new) broken.nvm (all_prints lines.now w)) }
     ensures cause { IfErr result (λ broken. broken.cause ≡ BreakCause.NotWritten SinkError.Failed
         → Rose (O.faults out.old) (O.faults out.new)) }
+    ensures no_want { OnOk result (O.wants out.new ≡ O.wants out.old) }
+    ensures want { IfErr result (λ broken. O.wants out.new ≡ wants_behind broken.cause (O.wants out.old)) }
     ensures told { is_some (O.written out.new) ≡ is_some (O.written out.old) }
     ensures never_falls { O.faults out.old ≤ O.faults out.new }
 {

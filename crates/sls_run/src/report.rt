@@ -5,7 +5,7 @@ ghost use Rattle.hex.specs.Hex.{encode_lower};
 ghost use Rattle.arrayvec.specs.ArrayVec.{array_vec_len};
 ghost use Rattle.std.specs.Io.KnownBytes.{append_known};
 ghost use Rattle.sls_io.specs.Faults.{Rose};
-ghost use Rattle.sls_io.specs.Sink.{AppendsPrefix};
+ghost use Rattle.sls_io.specs.Sink.{AppendsPrefix, wants_after};
 ghost use Rattle.sls_run.specs.Report.{line_text, cause_text};
 ghost use Rattle.sls_run.specs.declared.report.TheConstants.{LINE_BYTES};
 
@@ -167,6 +167,7 @@ pub fn print<O: Sink>(out: &mut O, line: Printed) -> Result<(), SinkError>
         → AppendsPrefix (O.written out.old) (O.written out.new) (line_text line) }
     ensures cause { IsErrOf result SinkError.Failed → Rose (O.faults out.old) (O.faults out.new) }
     ensures memory { IsErrOf result SinkError.Memory → O.written out.new ≡ O.written out.old }
+    ensures wants { O.wants out.new ≡ wants_after result (O.wants out.old) }
     ensures told { is_some (O.written out.new) ≡ is_some (O.written out.old) }
     ensures never_falls { O.faults out.old ≤ O.faults out.new }
 {

@@ -1,10 +1,11 @@
 //! The top call: a job is read, run and reported.
 
-ghost use Rattle.std.specs.Prelude.{◌≡◌, ◌≢◌, ◌≤◌, ◌+◌, ◌⊎◌, ◌↔◌, ℕ, List, IsTrue, IfSome, is_some};
+ghost use Rattle.std.specs.Prelude.{◌≡◌, ◌≢◌, ◌≤◌, ◌+◌, ◌↔◌, ℕ, List, IsTrue, IfSome, is_some};
 ghost use Rattle.std.specs.Io.KnownBytes.{prepend_known};
 ghost use Rattle.pmem_model.specs.Memory.{word_at, AllHome};
 ghost use Rattle.pmem_model.specs.Places.{zero_word};
 ghost use Rattle.sls_io.specs.Faults.{Rose};
+ghost use Rattle.sls_io.specs.Source.{TakesAtMost};
 ghost use Rattle.sls_kernel.specs.Plain.{World};
 ghost use Rattle.sls_kernel.specs.Program.{IsOfCode};
 ghost use Rattle.sls_kernel.specs.Side.{Running, mode};
@@ -13,7 +14,8 @@ ghost use Rattle.job_script.specs.Job.{IsJob, words_of};
 ghost use Rattle.job_script.specs.Grammar.{Faulty, verdict};
 ghost use Rattle.job_script.specs.declared.fault.JobCause.{JobCause};
 ghost use Rattle.sls_run.specs.Report.{first_of};
-ghost use Rattle.sls_run.specs.Job.{IsRun, LastLine, IsRunWords, EndsAt, LeavesRun, LeavesText, TakesAtMost, TellsFault, AnswersFault};
+ghost use Rattle.sls_run.specs.Job.{IsRun, LastLine, IsRunWords, EndsAt, LeavesRun, LeavesText, TellsFault, AnswersFault};
+ghost use Rattle.sls_run.specs.Job.{LastWants, TellsWant};
 ghost use Rattle.sls_run.specs.declared.report.Printed.TheVariants as line;
 
 use crate::code::image_of_lines;
@@ -33,6 +35,8 @@ fn end<O: Sink>(out: &mut O, status: Status, line: Printed) -> Status
     requires { status ≢ Status.WriteFault }
     ensures last { LastLine status line (O.written out.old) (O.written out.new) result }
     ensures cause { result ≡ Status.WriteFault → Rose (O.faults out.old) (O.faults out.new) }
+    ensures wants { LastWants status line (O.written out.old) (O.written out.new) (O.wants out.old) (O.wants out.new)
+        result }
     ensures told { is_some (O.written out.new) ≡ is_some (O.written out.old) }
     ensures never_falls { O.faults out.old ≤ O.faults out.new }
 {
@@ -47,6 +51,7 @@ fn end<O: Sink>(out: &mut O, status: Status, line: Printed) -> Status
 pub fn no_memory<O: Sink>(out: &mut O) -> Status
     ensures last { LastLine Status.Memory line.Memory (O.written out.old) (O.written out.new) result }
     ensures cause { result ≡ Status.WriteFault → Rose (O.faults out.old) (O.faults out.new) }
+    ensures wants { TellsWant result (O.written out.old) (O.written out.new) (O.wants out.old) (O.wants out.new) }
     ensures told { is_some (O.written out.new) ≡ is_some (O.written out.old) }
     ensures never_falls { O.faults out.old ≤ O.faults out.new }
 {
@@ -68,6 +73,7 @@ fn run_up<O: Sink>(
     ensures run { (came : Pmem) → IsRun lines.now (O.written out.old) (O.written out.new) came result.0 result.1 }
     ensures home { AllHome result.1 }
     ensures cause { result.0 ≡ Status.WriteFault → Rose (O.faults out.old) (O.faults out.new) }
+    ensures wants { TellsWant result.0 (O.written out.old) (O.written out.new) (O.wants out.old) (O.wants out.new) }
     ensures told { is_some (O.written out.new) ≡ is_some (O.written out.old) }
     ensures never_falls { O.faults out.old ≤ O.faults out.new }
 {
@@ -91,6 +97,7 @@ fn run_parsed<O: Sink>(alloc: Global, lines: &[Line], out: &mut O, nvm: Pmem) ->
     ensures run { IsRun lines.now (O.written out.old) (O.written out.new) nvm result.0 result.1 }
     ensures home { AllHome result.1 }
     ensures cause { result.0 ≡ Status.WriteFault → Rose (O.faults out.old) (O.faults out.new) }
+    ensures wants { TellsWant result.0 (O.written out.old) (O.written out.new) (O.wants out.old) (O.wants out.new) }
     ensures told { is_some (O.written out.new) ≡ is_some (O.written out.old) }
     ensures never_falls { O.faults out.old ≤ O.faults out.new }
 {
@@ -147,14 +154,14 @@ pub fn run_job<S: Source, O: Sink, F: Shelf>(
         → verdict text ≡ Faulty at cause
         → AnswersFault at cause (O.written out.old) (O.written out.new) result.0) }
 
-    // With other words the source stays as it is. A run takes some first bytes of it: at most as many as a text may
-    // have and one more, where they were read as a job, at fault or not.
+    // With other words the source stays as it is. A run takes some first bytes of it, at most as many as a text may
+    // have and one more, also where a read failed or memory was wanting.
     ensures unread { (IsRunWords words.now → ⊥) → job.new ≡ job.old }
     ensures takes { (taken : List ℕ) × (S.left job.old ≡ prepend_known taken (S.left job.new)) }
-    ensures takes_at_most { (result.0 ≡ Status.Done) ⊎ (result.0 ≡ Status.BadJob)
-        → TakesAtMost (TEXT_BYTES + 1) (S.left job.old) (S.left job.new) }
+    ensures takes_at_most { TakesAtMost (TEXT_BYTES + 1) (S.left job.old) (S.left job.new) }
     ensures read_fault { result.0 ≡ Status.ReadFault → Rose (S.faults job.old) (S.faults job.new) }
     ensures write_fault { result.0 ≡ Status.WriteFault → Rose (O.faults out.old) (O.faults out.new) }
+    ensures wants { TellsWant result.0 (O.written out.old) (O.written out.new) (O.wants out.old) (O.wants out.new) }
     ensures home { AllHome result.1 }
     ensures told { is_some (O.written out.new) ≡ is_some (O.written out.old) }
     ensures reads { S.faults job.old ≤ S.faults job.new }
@@ -181,6 +188,7 @@ fn run_text<O: Sink>(alloc: Global, text: &[u8], out: &mut O, nvm: Pmem) -> (Sta
     ensures run { LeavesText text.now (O.written out.old) (O.written out.new) nvm result.0 result.1 }
     ensures home { AllHome result.1 }
     ensures write_fault { result.0 ≡ Status.WriteFault → Rose (O.faults out.old) (O.faults out.new) }
+    ensures wants { TellsWant result.0 (O.written out.old) (O.written out.new) (O.wants out.old) (O.wants out.new) }
     ensures told { is_some (O.written out.new) ≡ is_some (O.written out.old) }
     ensures never_falls { O.faults out.old ≤ O.faults out.new }
 {

@@ -20,6 +20,7 @@ loop-line-preserved g c = record {
       lines_go_on _ _ _ c.loop-line.machine c.in-Ok.next (slice_index_or lines i (Cores 0)) (drop (i + 1) lines) _ _ t (c.in-Ok.ensures.ran t.now t.shows);
   told = c.in-Ok.ensures.told ∙ c.loop-line.invariant.told;
   falls = omega (arith, c.in-Ok.ensures.never_falls, c.loop-line.invariant.falls);
+  wants = c.in-Ok.ensures.no_want ∙ c.loop-line.invariant.wants;
 }
 
 pub returns-clause-ran : goal.returns-clause-ran

@@ -15,4 +15,5 @@ invariant-loop-line g l =
       running : (w : World) → Shows l.fn.machine w → SoFar (written l.fn.out) (written l.out) l.machine (all_prints (drop l.line-index l.lines)) (world_after (drop l.line-index l.lines)) (all_prints l.lines w) (world_after l.lines w);
       told : is_some (written l.out) ≡ is_some (written l.fn.out);
       falls : faults l.fn.out ≤ faults l.out;
+      wants : g.O.Sink.wants l.out ≡ g.O.Sink.wants l.fn.out;
     }

@@ -39,6 +39,7 @@ entries-preserved g c = record {
       (left_falls c.args.count c.entries._i c.entries-test.true) does.0 (subst (λ (m : Machine). Shows m (accept t.now c.args.channel)) (sym c.in-Ok.ensures.same) does.1) c.in-Ok.ensures.written;
   told = c.in-Ok.ensures.told ∙ c.entries.invariant.told;
   falls = omega (arith, c.in-Ok.ensures.never_falls, c.entries.invariant.falls);
+  wants = c.in-Ok.ensures.no_want ∙ c.entries.invariant.wants;
 }
 
 pub returns-clause-ran : goal.returns-clause-ran

@@ -14,4 +14,5 @@ invariant-entries g l =
       taking : (w : World) → Shows l.fn.machine w → Taking (written l.fn.out) (written l.out) l.machine l.count (l.count - l._i) l.channel w;
       told : is_some (written l.out) ≡ is_some (written l.fn.out);
       falls : faults l.fn.out ≤ faults l.out;
+      wants : g.O.Sink.wants l.out ≡ g.O.Sink.wants l.fn.out;
     }

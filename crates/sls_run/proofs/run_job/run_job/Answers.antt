@@ -42,4 +42,4 @@ returns-in-Ok-clause-takes g c =
     (t.taken, t.first)
 
 pub returns-in-Ok-clause-takes_at_most : goal.returns-in-Ok-clause-takes_at_most
-returns-in-Ok-clause-takes_at_most g c = λ read. takes_text (g.S.Source.left c.args.job.now) (g.S.Source.left c.read_to_end.new.source) c.in-Ok.ensures.told c.in-Ok.ensures.rest
+returns-in-Ok-clause-takes_at_most g c = takes_text (g.S.Source.left c.args.job.now) (g.S.Source.left c.read_to_end.new.source) c.in-Ok.ensures.told c.in-Ok.ensures.rest
