@@ -19,5 +19,5 @@ mod thread;
 pub use answers::{Asked, BootRefused, Did, LightCause, LightRefused, Why};
 pub use calls::Refusal;
 pub use machine::{Machine, Off};
-pub use play::{Answer, BootPlayBroken, Event, PlayBroken, Played, play_from_boot};
+pub use play::{Answer, BootPlayBroken, CORE, Event, PlayBroken, Played, play_from_boot};
 pub use thread::{RunThread, Status};

@@ -60,15 +60,19 @@ pub struct Machine {
 
 #[tactic(auto, unfolding(crate::specs::Side::mode, crate::specs::Side::left, crate::specs::Shows::image_of, crate::specs::Shows::memory_of, crate::specs::Shows::accepted_of))]
 impl Machine {
-    ghost use Rattle.std.specs.Prelude.{◌≢◌, ◌⊎◌, ◌+◌, ◌-◌, ◌*◌, ◌<◌, ◌≤◌, ◌==◌, ◌↔◌, ℕ, true, false, None, Some, IfOk, IfErr, IfSome, IfNone, slice_index, if◌then◌else◌};
+    ghost use Rattle.std.specs.Prelude.{◌≢◌, ◌⊎◌, ◌+◌, ◌-◌, ◌*◌, ◌<◌, ◌≤◌, ◌==◌, ◌↔◌, ℕ, true, false, None, Some};
+    ghost use Rattle.std.specs.Prelude.{IfOk, IfErr, IfSome, IfNone, slice_index, if◌then◌else◌};
     ghost use Rattle.sls_base.specs.declared.entry.Entry.{Entry};
     ghost use Rattle.pmem_model.specs.Words.{is_within, writes_back, cuts};
     ghost use Rattle.pmem_model.specs.Memory.{word_at};
     ghost use Rattle.sls_kernel.specs.Plain.{World, first, cut, accept, offered};
     ghost use Rattle.sls_base.specs.Counts.{one_more};
     ghost use Rattle.sls_kernel.specs.Program.{IsOfCode, program_bytes};
-    ghost use Rattle.sls_kernel.specs.Shows.{Shows, ShowsOff, StandsFor, IsUnformatted, IsPrefixOf, IsZero, durable_words, image_of, memory_of, accepted_of};
-    ghost use Rattle.sls_kernel.specs.Side.{Mode, Formatting, Recovering, Running, BeforeCommit, AfterCommit, mode, left, IsServing, ModeGoes, turned, IsLawful, written, IsWritten, AskGoes, IsLawfulAsked};
+    ghost use Rattle.sls_kernel.specs.Shows.{Shows, ShowsOff, StandsFor, IsUnformatted, IsPrefixOf, IsZero};
+    ghost use Rattle.sls_kernel.specs.Shows.{durable_words, image_of, memory_of, accepted_of};
+    ghost use Rattle.sls_kernel.specs.Side.{Mode, Formatting, Recovering, Running, BeforeCommit, AfterCommit, mode};
+    ghost use Rattle.sls_kernel.specs.Side.{left, IsServing, ModeGoes, turned, IsLawful, written, IsWritten, AskGoes};
+    ghost use Rattle.sls_kernel.specs.Side.{IsLawfulAsked};
     ghost use Rattle.sls_kernel.specs.declared.stage.Stage.TheVariants as stage;
 
     /// A machine that formats an empty memory with a program of code words, by turns of core 0 until it is up.

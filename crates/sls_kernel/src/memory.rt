@@ -9,6 +9,8 @@ ghost use Rattle.sls_kernel.specs.Counts.{SameCounts};
 use pmem_model::Pmem;
 use sls_base::{CoreNo, FRAME_WORDS, FRAMES, LINE_WORDS, TABLE_WORDS, WORDS};
 
+/// The bytes of a word.
+pub const WORD_BYTES: usize = 8;
 /// The core that makes every checkpoint.
 pub const LEADER: CoreNo = 0;
 

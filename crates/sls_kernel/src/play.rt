@@ -14,7 +14,7 @@ use sls_base::{CoreNo, Entry, Image, OUTPUT_CHANNELS, Version, WORDS};
 use std::alloc::Global;
 
 /// The one core.
-const CORE: CoreNo = 0;
+pub const CORE: CoreNo = 0;
 
 /// How many cores there are.
 const CORE_COUNT: u8 = 1;

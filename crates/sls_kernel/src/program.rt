@@ -4,11 +4,9 @@ ghost use Rattle.std.specs.Prelude.{◌≡◌, ℕ, ◌+◌, ◌/◌, ◌%◌, �
 ghost use Rattle.sls_kernel.specs.Words.{byte_of};
 ghost use Rattle.sls_kernel.specs.Program.{program_content, program_bytes};
 
+use crate::memory::WORD_BYTES;
 use sls_base::{Image, PAGE_BYTES, PAGE_WORDS};
 use std::alloc::{AllocError, Global};
-
-/// The bytes of a word.
-const WORD_BYTES: usize = 8;
 
 /// The words of the page that the image's program begins with.
 pub fn page_words(alloc: Global, image: &Image) -> Result<Vec<u64>, AllocError>

@@ -10,6 +10,7 @@ ghost use Rattle.sls_kernel.specs.Counts.{SameCounts};
 ghost use Rattle.sls_kernel.specs.Steps.{AreEntry, HasPut, SameOutside, SlotFound};
 
 use crate::calls::Refusal;
+use crate::memory::WORD_BYTES;
 use crate::thread::RunThread;
 use crate::{memory, page};
 use pmem_model::Pmem;
@@ -29,8 +30,6 @@ const ADDRESS: usize = 11;
 /// The register of their number.
 const LENGTH: usize = 12;
 
-/// The bytes of a word.
-const WORD_BYTES: usize = 8;
 /// The words of an entry's bytes.
 const CONTENT_WORDS: usize = 7;
 /// The words of an entry: its length, then its bytes.

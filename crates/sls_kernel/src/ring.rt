@@ -4,15 +4,13 @@ ghost use Rattle.std.specs.Prelude.{◌≡◌, ℕ, ◌+◌, ◌*◌, ◌/◌, �
 ghost use Rattle.pmem_model.specs.Memory.{word_at, AllHome};
 ghost use Rattle.sls_kernel.specs.Words.{frame_place, byte_of, IsEntry};
 
-use crate::memory;
+use crate::memory::{self, WORD_BYTES};
 use arrayvec::ArrayVec;
 use pmem_model::Pmem;
 use sls_base::{ENTRY_BYTES, FRAMES, RING_ENTRIES};
 
 /// The words of an entry's place: its length, and then its bytes.
 const PLACE_WORDS: usize = 8;
-/// The bytes of a word.
-const WORD_BYTES: usize = 8;
 
 /// Where the place of an entry begins on the ring's page.
 fn place(number: u64) -> usize
