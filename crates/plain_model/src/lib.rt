@@ -38,6 +38,7 @@ pub use object::Object;
 pub use objects::{Capability, Kind, Occupant, Region};
 pub use page::Page;
 pub use reach::{Reach, Span};
+pub use refusals::{is_bad_part, is_bad_range, is_entry_length, is_memory_size, meets};
 pub use slow_calls::{REFUSAL_ORDER, arg, needs};
 pub use state::{State, Waiting};
 pub use world::World;

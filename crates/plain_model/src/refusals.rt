@@ -113,19 +113,22 @@ pub fn free_slot(slots: &[Option<Capability>]) -> Option<usize>
     slots.iter().position(|slot| slot.is_none())
 }
 
-fn is_entry_length(length: u32) -> bool
+/// Whether a buffer has as many bytes as an entry may have.
+pub fn is_entry_length(length: u32) -> bool
     ensures { result ≡ plain.is_entry_length length }
 {
     1 <= length && length <= ENTRY
 }
 
-fn is_memory_size(pages: u32) -> bool
+/// Whether a memory object may have so many pages.
+pub fn is_memory_size(pages: u32) -> bool
     ensures { result ≡ plain.is_memory_size pages }
 {
     1 <= pages && pages as usize <= MEMORY_PAGES
 }
 
-fn meets(base: u32, count: u32, region: &Region) -> bool
+/// Whether a region has one of so many pages of addresses from one on.
+pub fn meets(base: u32, count: u32, region: &Region) -> bool
     ensures { result ≡ plain.meets base count region.now }
 {
     let (base, count) = (u64::from(base), u64::from(count));
@@ -139,14 +142,17 @@ fn overlaps(base: u32, count: u32, regions: &[Region]) -> bool
     regions.iter().any(|region| meets(base, count, region))
 }
 
-fn is_bad_range(base: u32, count: u32) -> bool
+/// Whether a base is no page's, or so many pages from it on end past the addresses.
+pub fn is_bad_range(base: u32, count: u32) -> bool
     ensures { result ≡ plain.is_bad_range base count }
 {
     let base = u64::from(base);
     base % PAGE != 0 || ADDRESSES < base + PAGE * u64::from(count)
 }
 
-fn is_bad_part(pages: usize, first: u32, count: u32, rights: u32) -> bool
+/// Whether a part of a memory object of so many pages is empty or goes past its end, or its rights are none or more
+/// than a region may have.
+pub fn is_bad_part(pages: usize, first: u32, count: u32, rights: u32) -> bool
     ensures { result ≡ plain.is_bad_part pages first count rights }
 {
     count == 0
