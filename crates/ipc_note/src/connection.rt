@@ -46,7 +46,7 @@ pub fn call(
     requires no_queue { id ≢ RUN_QUEUE }
     requires me { me < OBJECTS }
     requires free { IsFree links.old me }
-    requires server { conn.old.server < OBJECTS }
+    requires server { server.old.state ≡ ThreadState.Serving id → conn.old.server < OBJECTS }
     requires server_free { server.old.state ≡ ThreadState.Serving id → IsFree links.old conn.old.server }
 
     // The server is refused. Nothing changes but its answer.
@@ -71,6 +71,12 @@ pub fn call(
         caller.new ≡ with_state caller.old (ThreadState.Calling id) }
     ensures busy { conn.old.server ≢ me → server.old.state ≢ ThreadState.Serving id →
         (conn.new ≡ conn.old) × (server.new ≡ server.old) }
+
+    // Who stood in no list stands in none, but for the server that becomes Ready and the caller.
+    ensures others_free { (thread : ℕ) → IsFree links.old thread → thread ≢ conn.old.server → thread ≢ me →
+        IsFree links.new thread }
+    // A caller that is served stands in none.
+    ensures caller_free { conn.old.server ≢ me → server.old.state ≡ ThreadState.Serving id → IsFree links.new me }
 {
     if conn.server == me {
         answer(caller, TAKEN);

@@ -87,6 +87,9 @@ pub fn wait(
     // Where it is 0 the caller waits behind the others. Its registers stay until it is Ready again.
     ensures waits { note.old.count ≡ 0 → caller.new ≡ with_state caller.old (ThreadState.Waiting id) }
     ensures joined { note.old.count ≡ 0 → Appends links.old links.new id me }
+
+    // Who stood in no list stands in none, but for the caller that waits.
+    ensures others_free { (thread : ℕ) → IsFree links.old thread → thread ≢ me → IsFree links.new thread }
 {
     if note.count == 0 {
         caller.state = ThreadState::Waiting(id);
