@@ -8,7 +8,7 @@ use Rattle.std.proofs.lemmas.List.Filters.{length-filter_both}
 use Rattle.std.proofs.lemmas.List.Kept.{AllPairs-cons}
 
 -- a list whose elements all pass
-filter-all : {X : Type 0} (p : X → Bool) (xs : List X) → All (λ x. p x ≡ true) xs → filter p xs ≡ xs
+pub filter-all : {X : Type 0} (p : X → Bool) (xs : List X) → All (λ x. p x ≡ true) xs → filter p xs ≡ xs
 filter-all p [] all = refl
 filter-all p (x ∷ xs) all =
     let here : p x ≡ true = All-head (λ y. p y ≡ true) x xs all in
@@ -16,7 +16,7 @@ filter-all p (x ∷ xs) all =
     rw here (ap (λ ys. x ∷ ys) rest)
 
 -- a list none of whose elements passes
-filter-none : {X : Type 0} (p : X → Bool) (xs : List X) → All (λ x. p x ≡ false) xs → filter p xs ≡ []
+pub filter-none : {X : Type 0} (p : X → Bool) (xs : List X) → All (λ x. p x ≡ false) xs → filter p xs ≡ []
 filter-none p [] all = refl
 filter-none p (x ∷ xs) all =
     let here : p x ≡ false = All-head (λ y. p y ≡ false) x xs all in

@@ -1,5 +1,7 @@
 -- What the tests on regions say.
-use Rattle.std.proofs.Common.{◌≡◌, ℕ, ◌/◌, ◌<◌, ◌↔◌, Bool, true, max, IsTrue, List, Any, length, get_or, subst, refl, arith}
+use Rattle.std.specs.Prelude.{◌+◌, ◌≤◌, ◌&&◌, nat_lt}
+use Rattle.std.proofs.lemmas.Bool.Decides.{nat_tests}
+use Rattle.std.proofs.Common.{◌≡◌, ℕ, ◌/◌, ◌<◌, ◌↔◌, Bool, true, false, max, IsTrue, List, Any, length, get_or, subst, refl, arith}
 use Rattle.std.specs.List.{list_any}
 use Rattle.std.proofs.lemmas.Bool.{and_parts, and_from, ltb-true, lt-ltb, leb-true, le-leb}
 use Rattle.std.proofs.lemmas.List.{get_or_default}
@@ -20,8 +22,8 @@ pub covers_by_test : (region : Region) (at right : ℕ) → IsTrue (covers_with 
 covers_by_test region at right =
     let page = page_by_test region (at / PAGE_BYTES) in
     let rights = has_by_bits region.rights right in (
-      λ t. let both = and_parts (has_page (at / PAGE_BYTES) region) (has_rights region.rights right) t in (page.0 both.0, rights.0 both.1),
-      λ both. and_from (has_page (at / PAGE_BYTES) region) (has_rights region.rights right) (page.1 both.0) (rights.1 both.1),
+      λ t. let both = and_parts (has_rights region.rights right) (has_page (at / PAGE_BYTES) region) t in (page.0 both.1, rights.0 both.0),
+      λ both. and_from (has_rights region.rights right) (has_page (at / PAGE_BYTES) region) (rights.1 both.1) (page.1 both.0),
     )
 
 pub shares_by_test : (region : Region) (base count : ℕ) → IsTrue (shares_pages base count region) ↔ SharesPages region base count
@@ -29,6 +31,14 @@ shares_by_test region base count = (
   λ t. let apart = ltb-true _ _ t in (max region.base base, (omega arith, omega arith), omega arith, omega arith),
   λ shares. lt-ltb _ _ (omega (arith, shares.1, shares.2, shares.3)),
 )
+
+-- where both have a page, each begins before the other one ends
+pub shares_by_ends : (region : Region) (base count : ℕ) → 1 ≤ region.count → 1 ≤ count
+    → shares_pages base count region ≡ (nat_lt base (region.base + region.count) && nat_lt region.base (base + count))
+shares_by_ends region base count some wanted = grind (arith, nat_tests)
+
+pub shares_no_page : (region : Region) (base : ℕ) → shares_pages base 0 region ≡ false
+shares_no_page region base = grind (arith, nat_tests)
 
 -- the same of some region of a list
 pub some_shares : (regions : List Region) (base count : ℕ) → IsTrue (list_any (shares_pages base count) regions) ↔ Any (λ region. SharesPages region base count) regions

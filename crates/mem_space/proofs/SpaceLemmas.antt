@@ -1,17 +1,17 @@
 -- The regions of a space as a list.
-use Rattle.std.proofs.Common.{◌≡◌, ◌≢◌, ◌⊎◌, ℕ, ◌+◌, ◌<◌, ◌≤◌, ◌↔◌, Bool, true, false, not, List, [], ◌∷◌, ◌++◌, length, get_or, take, drop, filter, All, Any, Contains, AllPairs, nat_lt, ltb, refl, sym, ap, ◌∙◌, subst, inl, inr, arith}
+use Rattle.std.proofs.Common.{◌≡◌, ◌≢◌, ◌⊎◌, ℕ, suc, ◌+◌, ◌<◌, ◌≤◌, ◌↔◌, Bool, true, false, not, List, [], ◌∷◌, ◌++◌, length, get_or, take, drop, filter, All, Any, Contains, AllPairs, nat_lt, ltb, refl, sym, ap, ◌∙◌, subst, inl, inr, arith}
 use Rattle.std.specs.Prelude.{◌==◌}
 use Rattle.std.specs.List.{insert, AllWithin}
 use Rattle.std.proofs.lemmas.Bool.{cases_lt, cases_order, ltb-true, ltb-false, lt-ltb, le-ltb, eqb-true, eq-eqb, ne_eqb, not-true, false≢true}
 use Rattle.std.proofs.lemmas.List.{get_or_default}
-use Rattle.std.proofs.lemmas.List.Elements.{All-cons, All-append, All-filter, All-contains, Contains-append_cases, Contains-append_left, Contains-append_right}
+use Rattle.std.proofs.lemmas.List.Elements.{All-head, All-tail, All-cons, All-append, All-filter, All-contains, Contains-append_cases, Contains-append_left, Contains-append_right}
 use Rattle.std.proofs.lemmas.List.Kept.{AllPairs-cons, AllPairs-filter}
 use Rattle.std.specs.List.Sorted.{IsNonDecreasingBy}
-use Rattle.mem_space.proofs.FilterLemmas.{filter-both, filter-front, filter-back, AllPairs-append, filter-kept, shorter_any, any_shorter, contained_before, contained_passes, contained_after, only_one}
+use Rattle.mem_space.proofs.FilterLemmas.{filter-all, filter-none, filter-both, filter-front, filter-back, AllPairs-append, filter-kept, shorter_any, any_shorter, contained_before, contained_passes, contained_after, only_one}
 use Rattle.mem_space.specs.declared.region.Region.{Region}
 use Rattle.mem_space.specs.declared.space.Space.{Space}
 use Rattle.mem_space.specs.Region.{IsRegion, HasPage, SharesPages, IsApart}
-use Rattle.mem_space.specs.Space.{IsSpace, with_region, without_base}
+use Rattle.mem_space.specs.Space.{IsSpace, with_region, inserted, without_base}
 
 -- A page is one region's at most.
 pub one_region : (space : Space) (page : ℕ) (a b : Region) → IsSpace space
@@ -143,6 +143,32 @@ module _ (xs : List Region) (region : Region) (all : All IsRegion xs) (is : IsRe
                 let up = begins_after other region.base region.count b.in_form.some_page high b.apart in
                 Contains-append_right (filter below xs) (region ∷ filter above xs) other (Contains-append_right (region ∷ []) (filter above xs) other (contained_after above xs other has (lt-ltb _ _ (omega (arith, up, is.some_page)))))
           ]
+
+  -- none of them begins where the new one does
+  pub elsewhere : All (λ x. x.base ≢ region.base) xs
+  elsewhere k d inside = λ same.
+      let b : IsBeside region (get_or xs k d) = beside k d inside in
+      b.apart (region.base, (omega arith, omega (arith, b.in_form.some_page)), omega arith, omega (arith, is.some_page))
+
+-- where all begin elsewhere and rise, it stands before the first that begins above it
+pub inserted-with_region : (ys : List Region) (region : Region) → AllPairs (λ a b. a.base < b.base) ys → All (λ y. y.base ≢ region.base) ys → inserted region ys ≡ with_region ys region
+inserted-with_region [] region rising elsewhere = refl
+inserted-with_region (y ∷ ys) region rising elsewhere =
+    let here : y.base ≢ region.base = All-head (λ y. y.base ≢ region.base) y ys elsewhere in
+    let rest : All (λ y. y.base ≢ region.base) ys = All-tail (λ y. y.base ≢ region.base) y ys elsewhere in
+    let later : AllPairs (λ a b. a.base < b.base) ys = λ i j d before inside. rising (suc i) (suc j) d (omega arith) (omega arith) in
+    elim (cases_lt region.base y.base) [
+      | inl lower ↦
+          let first : ltb region.base y.base ≡ true = lt-ltb _ _ lower in
+          let not_below : ltb y.base region.base ≡ false = le-ltb _ _ (omega arith) in
+          let all_above : All (λ r. ltb region.base r.base ≡ true) ys = λ k d inside. let up : y.base < (get_or ys k d).base = rising 0 (suc k) d (omega arith) (omega arith) in lt-ltb _ _ (omega arith) in
+          let none_below : All (λ r. ltb r.base region.base ≡ false) ys = λ k d inside. let up : y.base < (get_or ys k d).base = rising 0 (suc k) d (omega arith) (omega arith) in le-ltb _ _ (omega arith) in
+          rw first (rw not_below (rw (filter-none (λ r. ltb r.base region.base) ys none_below) (rw (filter-all (λ r. ltb region.base r.base) ys all_above) refl)))
+      | inr upper ↦
+          let first : ltb region.base y.base ≡ false = le-ltb _ _ upper in
+          let is_below : ltb y.base region.base ≡ true = lt-ltb _ _ (omega (arith, here)) in
+          rw first (rw is_below (ap (λ l. y ∷ l) (inserted-with_region ys region later rest)))
+    ]
 
 -- regions that rise don't fall
 pub never_falling : (xs : List Region) → AllPairs (λ a b. a.base < b.base) xs → IsNonDecreasingBy (λ r. r.base) xs

@@ -17,9 +17,9 @@ has_page page region = nat_le region.base page && nat_lt page (region.base + reg
 abbrev pub Covers : Region → ℕ → Type 0
 Covers region at = HasPage region (at / PAGE_BYTES)
 
--- whether the region covers a byte address and has every one of these rights
+-- whether the region has every one of these rights and covers a byte address
 abbrev pub covers_with : ℕ → ℕ → Region → Bool
-covers_with at right region = has_page (at / PAGE_BYTES) region && has_rights region.rights right
+covers_with at right region = has_rights region.rights right && has_page (at / PAGE_BYTES) region
 
 -- the index, in the memory object, of the page at an address that the region covers
 abbrev pub index_at : Region → ℕ → ℕ

@@ -1,5 +1,5 @@
 -- Spaces: their regions, and what an address translates to.
-use Rattle.std.specs.Prelude.{◌≡◌, ℕ, ◌<◌, ◌==◌, not, List, ◌∷◌, ◌++◌, All, AllPairs, Any, Contains, Option, filter, find, nat_lt}
+use Rattle.std.specs.Prelude.{◌≡◌, ℕ, ◌<◌, ◌==◌, not, if◌then◌else◌, List, [], ◌∷◌, ◌++◌, All, AllPairs, Any, Contains, Option, filter, find, nat_lt}
 use Rattle.std.specs.Option.{option_map}
 use Rattle.sls_base.specs.Rights.{HasRights}
 use Rattle.mem_space.specs.declared.region.Region.{Region}
@@ -34,6 +34,12 @@ abbrev pub with_region : List Region → Region → List Region
 with_region regions region =
     filter (λ other. nat_lt other.base region.base) regions
     ++ region ∷ filter (λ other. nat_lt region.base other.base) regions
+
+-- the regions with one more, before the first that begins above it
+abbrev pub inserted : Region → List Region → List Region
+inserted region [] = region ∷ []
+inserted region (r ∷ regions) =
+    if nat_lt region.base r.base then region ∷ r ∷ regions else r ∷ inserted region regions
 
 -- the regions but for those that begin at this page
 abbrev pub without_base : List Region → ℕ → List Region

@@ -1,6 +1,6 @@
 //! Laws. Each of these functions does nothing: its contract is the law.
 
-ghost use Rattle.std.specs.Prelude.{◌≡◌, ◌↔◌, ℕ, Contains, IsTrue, Some};
+ghost use Rattle.std.specs.Prelude.{◌≡◌, ◌↔◌, ℕ, ◌+◌, ◌≤◌, ◌&&◌, nat_lt, false, Contains, IsTrue, Some};
 ghost use Rattle.sls_base.specs.Rights.{HasRights};
 ghost use Rattle.mem_space.specs.declared.region.Region.{Region};
 ghost use Rattle.mem_space.specs.declared.space.Space.{Space};
@@ -26,4 +26,7 @@ pub fn region_tests()
         → IsTrue (covers_with at right region) ↔ (Covers region at × HasRights region.rights right) }
     ensures shares { (region : Region) (base count : ℕ)
         → IsTrue (shares_pages base count region) ↔ SharesPages region base count }
+    ensures by_ends { (region : Region) (base count : ℕ) → 1 ≤ region.count → 1 ≤ count → shares_pages base count region
+        ≡ (nat_lt base (region.base + region.count) && nat_lt region.base (base + count)) }
+    ensures no_page { (region : Region) (base : ℕ) → shares_pages base 0 region ≡ false }
 {}

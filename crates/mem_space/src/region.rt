@@ -18,11 +18,11 @@ pub struct Region {
 }
 
 impl Region {
-    /// Whether it covers a byte address and has every one of these rights.
+    /// Whether it has every one of these rights and covers a byte address.
     pub(crate) fn covers_with(&self, at: u32, right: u8) -> bool
         ensures { result ≡ regions.covers_with at right self.now }
     {
-        self.has_page(at / PAGE_BYTES as u32) && has_rights(self.rights, right)
+        has_rights(self.rights, right) && self.has_page(at / PAGE_BYTES as u32)
     }
 
     /// Whether one of its pages is among the `count` from `base` on.

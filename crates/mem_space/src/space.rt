@@ -1,8 +1,8 @@
 //! Spaces.
 
-ghost use Rattle.std.specs.Prelude.{◌≡◌, ◌≢◌, ℕ, ◌<◌, ◌≤◌, ◌↔◌, ◌⊎◌, false, IsTrue, IfSome, [], Any, Contains, find};
+ghost use Rattle.std.specs.Prelude.{◌≡◌, ◌≢◌, ℕ, ◌*◌, ◌==◌, ◌<◌, ◌≤◌, ◌↔◌, ◌⊎◌, false, IsTrue, IfSome, [], Any, Contains, find};
 ghost use Rattle.std.specs.List.{list_any};
-ghost use Rattle.sls_base.specs.declared.limits.TheConstants.{MEMORY_PAGES, OBJECTS};
+ghost use Rattle.sls_base.specs.declared.limits.TheConstants.{MEMORY_PAGES, OBJECTS, PAGE_BYTES};
 ghost use Rattle.arrayvec.specs.ArrayVec.{array_vec_len};
 ghost use Rattle.mem_space.specs.Region.{IsRegion, covers_with, shares_pages};
 
@@ -18,7 +18,7 @@ pub struct Space {
 
 impl Space {
     ghost use Rattle.mem_space.specs.declared.region.Region.{Region};
-    ghost use Rattle.mem_space.specs.Space.{IsSpace, Overlaps, TranslatesTo, translation, with_region, without_base};
+    ghost use Rattle.mem_space.specs.Space.{IsSpace, Overlaps, TranslatesTo, translation, with_region, inserted, without_base};
 
     /// A space without regions.
     pub fn new() -> Space
@@ -80,6 +80,14 @@ impl Space {
         false
     }
 
+    /// Whether a region begins at a byte address.
+    pub fn begins_at(&self, at: u32) -> bool
+        ensures { result ≡ list_any (λ region. PAGE_BYTES * region.base == at) self.now.regions.items }
+    {
+        self.regions.iter().any(|region| PAGE_BYTES as u64 * u64::from(region.base)
+            == u64::from(at))
+    }
+
     /// Adds a region.
     pub fn map(&mut self, region: Region)
         requires space { IsSpace self.old }
@@ -87,6 +95,7 @@ impl Space {
         requires apart { ¬ Overlaps self.old region.base region.count }
         requires room { array_vec_len self.old.regions < SPACE_REGIONS }
         ensures regions { self.new.regions.items ≡ with_region self.old.regions.items region }
+        ensures by_place { self.new.regions.items ≡ inserted region self.old.regions.items }
         ensures members { (other : Region) → Contains self.new.regions.items other
             ↔ (Contains self.old.regions.items other ⊎ (other ≡ region)) }
         ensures space { IsSpace self.new }

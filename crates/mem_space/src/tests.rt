@@ -56,6 +56,14 @@ fn regions_begin_and_end_at_their_pages(rt: HostRuntime) {
     ] {
         assert_eq!(rt; space.translate(at, right), want, "{right} at {at}");
     }
+    for (at, want) in [
+        (8_192, true),
+        (8_193, false),
+        (12_288, false),
+        (0xffff_f000, true),
+    ] {
+        assert_eq!(rt; space.begins_at(at), want, "at {at}");
+    }
     for (base, count, want) in [
         (0, 2, false),
         (0, 3, true),
