@@ -1,5 +1,5 @@
 -- Which plain state the objects are.
-use Rattle.std.specs.Prelude.{◌≡◌, ◌≢◌, ℕ, false, List, [], Option, slice_index_or, slice_set}
+use Rattle.std.specs.Prelude.{◌≡◌, ◌≢◌, ℕ, ◌==◌, true, false, if◌then◌else◌, List, [], Option, slice_index_or, slice_set}
 use Rattle.link_lists.specs.Lists.{list_at}
 use Rattle.ipc_note.specs.declared.lists.TheConstants.{RUN_QUEUE}
 use Rattle.sls_base.specs.declared.fixed.TheConstants.{SCHEDULER}
@@ -45,6 +45,13 @@ state_of o rest = record {
 abbrev pub state_with_object : State → ℕ → Object → State
 state_with_object s id object = record s { objects = with_object s.objects id object }
 
+-- with what is told at a number, which may be nothing
+abbrev pub objects_with : (ℕ → Option Object) → ℕ → Option Object → ℕ → Option Object
+objects_with objects id object i = if i == id then object else objects i
+
+abbrev pub state_with_at : State → ℕ → Option Object → State
+state_with_at s id object = record s { objects = objects_with s.objects id object }
+
 abbrev pub state_with_queue : State → List ℕ → State
 state_with_queue s queue = record s { queue = queue }
 
@@ -60,3 +67,12 @@ pub record Puts (old new : Objects) (id : ℕ) (slot : Slot) : Type 0 where
 -- only the run queue, and the numbers of objects that have a list, have threads
 abbrev pub HasNoStrays : Objects → Type 0
 HasNoStrays o = (i : ℕ) → i ≢ RUN_QUEUE → has_list (slot_at o i) ≡ false → list_at o.links i ≡ []
+
+-- no list of this number has threads where it is the list of no object; list 1 is the run queue
+abbrev pub HasNoStraysAt : Objects → Slot → ℕ → Type 0
+HasNoStraysAt o slot id = id ≢ RUN_QUEUE → has_list slot ≡ false → list_at o.links id ≡ []
+
+-- The lists alone changed, and of those that belong to an object none.
+pub record ListsAlone (old new : Objects) : Type 0 where
+  pub slots : (i : ℕ) → slot_at new i ≡ slot_at old i
+  pub lists : (i : ℕ) → has_list (slot_at old i) ≡ true → list_at new.links i ≡ list_at old.links i

@@ -5,6 +5,7 @@ use Rattle.cap_group.specs.declared.cap.Cap.{Cap}
 use Rattle.mem_space.specs.declared.region.Region.{Region}
 use Rattle.mem_space.specs.declared.memory.MemPage.{MemPage}
 use Rattle.mem_space.specs.declared.memory.Memory.{Memory}
+use Rattle.mem_space.specs.declared.space.Space.{Space}
 use Rattle.plain_model.specs.declared.objects.Capability.{Capability}
 use Rattle.plain_model.specs.declared.objects.Occupant.{Occupant}
 use Rattle.plain_model.specs.declared.objects.Region.{Region as PlainRegion}
@@ -53,6 +54,16 @@ has_list _ = false
 abbrev pub memory_in : Slot → Memory
 memory_in (slots.Memory memory) = memory
 memory_in _ = record { pages = record { items = [] } }
+
+-- the space in a slot; where there is another object, one without regions
+
+abbrev pub is_space : Slot → Bool
+is_space (slots.Space space) = true
+is_space _ = false
+
+abbrev pub space_in : Slot → Space
+space_in (slots.Space space) = space
+space_in _ = record { regions = record { items = [] } }
 
 -- Cores.
 

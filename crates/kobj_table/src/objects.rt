@@ -15,7 +15,7 @@ use crate::slot::Slot;
 use cap_group::Group;
 use ipc_note::{Connection, Notification, RUN_QUEUE, ThreadLists};
 use link_lists::Links;
-use mem_space::{Memory, PageIndex, Space};
+use mem_space::{Memory, PageIndex, Region, Space};
 use sls_base::{CORES, CoreNo, OBJECTS, ObjId, REGISTERS, Ring, SCHEDULER, Thread, ThreadState};
 use std::{array, mem};
 
@@ -29,8 +29,11 @@ pub struct Objects {
 #[tactic(auto, unfolding(crate::specs::Objects::state_of))]
 impl Objects {
     ghost use Rattle.mem_space.specs.declared.memory.MemPage.{MemPage};
-    ghost use Rattle.kobj_table.specs.Slots.{memory_in, has_list};
-    ghost use Rattle.kobj_table.specs.Objects.{slot_at, object_at, IsOtherThan, Rest, state_of, state_with_object, state_with_queue, state_with_core, Puts, HasNoStrays};
+    ghost use Rattle.kobj_table.specs.Slots.{memory_in, space_in, is_space, has_list};
+    ghost use Rattle.mem_space.specs.Region.{IsRegion};
+    ghost use Rattle.mem_space.specs.Space.{IsSpace, Overlaps, inserted, without_base};
+    ghost use Rattle.sls_base.specs.declared.limits.TheConstants.{SPACE_REGIONS};
+    ghost use Rattle.kobj_table.specs.Objects.{slot_at, object_at, IsOtherThan, Rest, state_of, state_with_object, state_with_at, state_with_queue, state_with_core, Puts, HasNoStrays, HasNoStraysAt};
 
     /// No objects, and empty lists.
     pub fn new() -> Self
@@ -60,6 +63,9 @@ impl Objects {
         ensures state { (rest : Rest) (object : Object) → id ≢ SCHEDULER
             → object_of rest.content slot (list_at self.old.links id) ≡ Some object
             → state_of self.new rest ≡ state_with_object (state_of self.old rest) id object }
+        ensures whole { (rest : Rest) → id ≢ SCHEDULER → state_of self.new rest
+            ≡ state_with_at (state_of self.old rest) id (object_of rest.content slot (list_at self.old.links id)) }
+        ensures strays { HasNoStrays self.old → HasNoStraysAt self.old slot id → HasNoStrays self.new }
     {
         self.slots[id as usize] = slot;
     }
@@ -69,6 +75,9 @@ impl Objects {
         requires { id < OBJECTS }
         ensures taken { result ≡ slot_at self.old id }
         ensures empty { Puts self.old self.new id Slot.Empty }
+        ensures state { (rest : Rest) → id ≢ SCHEDULER
+            → state_of self.new rest ≡ state_with_at (state_of self.old rest) id None }
+        ensures strays { HasNoStrays self.old → HasNoStraysAt self.old Slot.Empty id → HasNoStrays self.new }
     {
         mem::replace(&mut self.slots[id as usize], Slot::Empty)
     }
@@ -181,8 +190,42 @@ impl Objects {
         ensures puts { Puts self.old self.new id (Slot.Thread thread) }
         ensures state { (rest : Rest) → id ≢ SCHEDULER
             → state_of self.new rest ≡ state_with_object (state_of self.old rest) id (plain.Thread thread) }
+        ensures strays { HasNoStrays self.old → HasNoStraysAt self.old (Slot.Thread thread) id
+            → HasNoStrays self.new }
     {
         self.put(id, Slot::Thread(thread));
+    }
+
+    /// Adds a region to the space of a number.
+    pub fn map_region(&mut self, id: ObjId, region: Region)
+        requires id { id < OBJECTS }
+        requires there { is_space (slot_at self.old id) ≡ true }
+        requires space { IsSpace (space_in (slot_at self.old id)) }
+        requires region { IsRegion region }
+        requires apart { ¬ Overlaps (space_in (slot_at self.old id)) region.base region.count }
+        requires room { length (space_in (slot_at self.old id)).regions.items < SPACE_REGIONS }
+        ensures puts { Puts self.old self.new id (Slot.Space (space_in (slot_at self.new id))) }
+        ensures regions { (space_in (slot_at self.new id)).regions.items
+            ≡ inserted region (space_in (slot_at self.old id)).regions.items }
+        ensures strays { HasNoStrays self.old → HasNoStrays self.new }
+    {
+        let mut slot = self.take(id);
+        slot.map_region(region);
+        self.put(id, slot);
+    }
+
+    /// Takes the region that begins at a page of addresses out of the space of a number, if there is one.
+    pub fn unmap_region(&mut self, id: ObjId, base: u32)
+        requires id { id < OBJECTS }
+        requires there { is_space (slot_at self.old id) ≡ true }
+        ensures puts { Puts self.old self.new id (Slot.Space (space_in (slot_at self.new id))) }
+        ensures regions { (space_in (slot_at self.new id)).regions.items
+            ≡ without_base (space_in (slot_at self.old id)).regions.items base }
+        ensures strays { HasNoStrays self.old → HasNoStrays self.new }
+    {
+        let mut slot = self.take(id);
+        slot.unmap_region(base);
+        self.put(id, slot);
     }
 
     /// Says of a page of a memory object whether it is fresh.
@@ -198,6 +241,7 @@ impl Objects {
             → slice_get (memory_in (slot_at self.old id)).pages.items index ≡ Some page
             → ((offset : ℕ) → rest.content page.page offset ≡ 0)
             → state_of self.new rest ≡ state_of self.old rest }
+        ensures strays { HasNoStrays self.old → HasNoStrays self.new }
     {
         let mut slot = self.take(id);
         slot.set_fresh(index, fresh);
@@ -228,6 +272,7 @@ impl Objects {
         ensures none { is_scheduler (slot_at self.old SCHEDULER) ≡ false → self.new ≡ self.old }
         ensures others { (i : ℕ) → i ≢ SCHEDULER → slot_at self.new i ≡ slot_at self.old i }
         ensures links { self.new.links ≡ self.old.links }
+        ensures strays { HasNoStrays self.old → HasNoStrays self.new }
     {
         let Some(Slot::Scheduler(cores)) = self.slot(SCHEDULER) else {
             return;
@@ -272,6 +317,7 @@ impl Objects {
             ≡ state_with_queue (state_of self.old rest) ((state_of self.old rest).queue ++ id ∷ []) }
         ensures last { Appends self.old.links self.new.links RUN_QUEUE id }
         ensures slots { self.new.slots ≡ self.old.slots }
+        ensures strays { HasNoStrays self.old → HasNoStrays self.new }
     {
         self.links.push_back(RUN_QUEUE, id as usize);
     }
@@ -286,6 +332,7 @@ impl Objects {
         ensures slots { self.new.slots ≡ self.old.slots }
         ensures range { IfSome result (λ id. id < OBJECTS) }
         ensures freed { IfSome result (IsFree self.new.links) }
+        ensures strays { HasNoStrays self.old → HasNoStrays self.new }
     {
         match self.links.pop_front(RUN_QUEUE) {
             Some(front) => Some(front as ObjId),
@@ -299,6 +346,7 @@ impl Objects {
         ensures rest { (i : ℕ) → list_at self.new.links i ≡ without id (list_at self.old.links i) }
         ensures freed { IsFree self.new.links id }
         ensures slots { self.new.slots ≡ self.old.slots }
+        ensures strays { HasNoStrays self.old → HasNoStrays self.new }
     {
         let thread = id as usize;
         if self.links.is_linked(thread) {

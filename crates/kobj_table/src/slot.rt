@@ -1,12 +1,13 @@
 //! What stands at a number.
 
-ghost use Rattle.std.specs.Prelude.{◌≡◌, ℕ, ◌<◌, List, length, slice_get, Some};
+ghost use Rattle.std.specs.Prelude.{◌≡◌, ℕ, ◌<◌, true, List, length, slice_get, Some};
+ghost use Rattle.sls_base.specs.declared.limits.TheConstants.{SPACE_REGIONS};
 ghost use Rattle.mem_space.specs.declared.memory.MemPage.{MemPage};
 ghost use Rattle.mem_space.specs.Memory.{MarksPage};
 
 use cap_group::Group;
 use ipc_note::{Connection, Notification};
-use mem_space::{Memory, PageIndex, Space};
+use mem_space::{Memory, PageIndex, Region, Space};
 use sls_base::{CORES, ObjId, Ring, Thread};
 
 /// How many cores there are, and of each its thread with what is left of its slice.
@@ -31,7 +32,39 @@ pub enum Slot {
 }
 
 impl Slot {
-    ghost use Rattle.kobj_table.specs.Slots.{memory_in, object_of};
+    ghost use Rattle.kobj_table.specs.Slots.{memory_in, space_in, is_space, object_of};
+    ghost use Rattle.mem_space.specs.Region.{IsRegion};
+    ghost use Rattle.mem_space.specs.Space.{IsSpace, Overlaps, inserted, without_base};
+
+    /// Adds a region to a space.
+    pub(crate) fn map_region(&mut self, region: Region)
+        requires there { is_space self.old ≡ true }
+        requires space { IsSpace (space_in self.old) }
+        requires region { IsRegion region }
+        requires apart { ¬ Overlaps (space_in self.old) region.base region.count }
+        requires room { length (space_in self.old).regions.items < SPACE_REGIONS }
+        ensures regions { (space_in self.new).regions.items ≡ inserted region (space_in self.old).regions.items }
+        ensures there { self.new ≡ Slot.Space (space_in self.new) }
+    {
+        match self {
+            Slot::Space(space) => space.map(region),
+            _ => {}
+        }
+    }
+
+    /// Takes away the region of a space that begins at a page of addresses, if there is one.
+    pub(crate) fn unmap_region(&mut self, base: u32)
+        requires { is_space self.old ≡ true }
+        ensures regions { (space_in self.new).regions.items ≡ without_base (space_in self.old).regions.items base }
+        ensures there { self.new ≡ Slot.Space (space_in self.new) }
+    {
+        match self {
+            Slot::Space(space) => {
+                space.unmap(base);
+            }
+            _ => {}
+        }
+    }
 
     /// Says of a page of a memory object whether it is fresh.
     pub(crate) fn set_fresh(&mut self, index: PageIndex, fresh: bool)

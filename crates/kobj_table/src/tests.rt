@@ -5,8 +5,8 @@ ghost use Rattle.std.specs.Prelude.{◌<◌};
 use super::*;
 use cap_group::Group;
 use ipc_note::{Connection, Notification, signal, wait};
-use mem_space::{MemPage, Memory, Space};
-use sls_base::{OBJECTS, ObjId, Ring, SCHEDULER, Thread, ThreadState};
+use mem_space::{MemPage, Memory, Region, Space};
+use sls_base::{OBJECTS, ObjId, READ, Ring, SCHEDULER, Thread, ThreadState};
 
 const NOTE: ObjId = 20;
 
@@ -87,6 +87,42 @@ fn fill_first_page(objects: &mut Objects, id: ObjId)
     if memory.pages.len() > 0 {
         objects.set_fresh(id, 0, false);
     }
+}
+
+/// Maps two pages to be read, from address 20480 on, where an empty space stands.
+fn map_two_pages(objects: &mut Objects, id: ObjId)
+    requires { id < OBJECTS }
+{
+    let Some(space) = objects.space(id) else {
+        return;
+    };
+    if space.regions.is_empty() {
+        objects.map_region(
+            id,
+            Region {
+                base: 5,
+                count: 2,
+                first: 0,
+                memory: 13,
+                rights: READ,
+            },
+        );
+    }
+}
+
+/// Takes the region that begins at a page out of a space.
+fn unmap_page(objects: &mut Objects, id: ObjId, base: u32)
+    requires { id < OBJECTS }
+{
+    if objects.space(id).is_some() {
+        objects.unmap_region(id, base);
+    }
+}
+
+/// Where the first region of a space has the page behind its first.
+fn translated(objects: &Objects, id: ObjId) -> Option<(ObjId, u8)> {
+    let region = objects.space(id)?.regions.first()?;
+    Some((region.memory, region.first.wrapping_add(1)))
 }
 
 /// Lets a thread that stands in no list wait on the notification.
@@ -178,6 +214,20 @@ fn a_core_runs_what_it_is_told(rt: HostRuntime) {
     assert_eq!(rt; objects.running(0), None);
     objects.run(1, None);
     assert_eq!(rt; objects.running(1), None);
+}
+
+#[test]
+fn a_region_is_mapped_in_one_space_and_taken_out_again(rt: HostRuntime) {
+    let mut objects = of_each_kind();
+    objects.put(17, Slot::Space(Space::new()));
+    map_two_pages(&mut objects, 12);
+    for (id, want) in [(12, Some((13, 1))), (17, None)] {
+        assert_eq!(rt; translated(&objects, id), want, "at {id}");
+    }
+    unmap_page(&mut objects, 12, 6);
+    assert_eq!(rt; translated(&objects, 12), Some((13, 1)));
+    unmap_page(&mut objects, 12, 5);
+    assert_eq!(rt; translated(&objects, 12), None);
 }
 
 #[test]
