@@ -4,6 +4,7 @@ use Rattle.std.proofs.lemmas.Bool.Decides.{nat_tests}
 use Rattle.sls_base.specs.declared.limits.TheConstants.{TABLE_WORDS, FRAME_WORDS, FRAMES, WORDS}
 use Rattle.pmem_model.specs.Places.{bank_of, offset_of, bank_size, bank_start}
 use Rattle.pmem_model.specs.Memory.{Memory, AllHome, SameHomes, is_at_home, is_frame_home, frame_begin}
+use Rattle.pmem_model.specs.PlaceLaws.{home_of}
 use Rattle.sls_kernel.specs.Words.{frame_place}
 
 pub frame_bank : (frame i : ℕ) → i < FRAME_WORDS → bank_of (frame_place frame + i) ≡ 1 + frame
@@ -30,13 +31,9 @@ pub frame_begins : (frame : ℕ) → frame_begin frame ≡ frame_place frame
 unfolding bank_start
 frame_begins frame = grind (arith, nat_tests)
 
-bank_below : (at : ℕ) → at < WORDS → bank_of at < 1 + FRAMES
-unfolding bank_of
-bank_below at h = grind (arith, nat_tests)
-
 -- with all frames at home, each word and each frame is
 pub home_word : (m : Memory) (at : ℕ) → AllHome m → at < WORDS → IsTrue (is_at_home m at)
-home_word m at home h = home (bank_of at) (bank_below at h)
+home_word m at home h = home_of m at home h
 
 pub home_frame : (m : Memory) (frame : ℕ) → AllHome m → frame < FRAMES → IsTrue (is_frame_home m frame)
 home_frame m frame home h = home (1 + frame) (omega arith)
