@@ -268,7 +268,8 @@ impl Objects {
         ensures state { (rest : Rest)
             → state_of self.new rest ≡ state_with_core (state_of self.old rest) core (option_map occupant_of running) }
         ensures ran { (cores : Cores) → slot_at self.old SCHEDULER ≡ Slot.Scheduler cores
-            → slot_at self.new SCHEDULER ≡ Slot.Scheduler (record cores { running = slice_set cores.running core running }) }
+            → slot_at self.new SCHEDULER
+            ≡ Slot.Scheduler (record cores { running = slice_set cores.running core running }) }
         ensures none { is_scheduler (slot_at self.old SCHEDULER) ≡ false → self.new ≡ self.old }
         ensures others { (i : ℕ) → i ≢ SCHEDULER → slot_at self.new i ≡ slot_at self.old i }
         ensures links { self.new.links ≡ self.old.links }

@@ -217,5 +217,6 @@ pub fn owners_take_part()
     ensures fenced { (o : Owner) (core : ℕ) (f g : ℕ → Word) → IsFenced core f g → FencedIn o core f g }
     ensures left { (o : Owner) (f : ℕ → Word) (left : ℕ → ℕ) → ((i : ℕ) → Left (f i) (left i)) → LeftIn o f left }
     ensures fence_is_calm { (o : Owner) (core : ℕ) (f g : ℕ → Word) → FencedIn o core f g → CalmIn o f g }
-    ensures left_before { (o : Owner) (f g : ℕ → Word) (left : ℕ → ℕ) → CalmIn o f g → LeftIn o g left → LeftIn o f left }
+    ensures left_before { (o : Owner) (f g : ℕ → Word) (left : ℕ → ℕ) → CalmIn o f g → LeftIn o g left
+        → LeftIn o f left }
 {}

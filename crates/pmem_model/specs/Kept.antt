@@ -19,7 +19,8 @@ pub record IsKept (cached durable marks : List ℕ) (touched : ℕ) : Type 0 whe
   pub clean : (i : ℕ) → is_touched (length cached) touched i ≡ false → slice_index cached i ≡ slice_index durable i
   pub unmarked : (i : ℕ) → is_touched (length cached) touched i ≡ false → slice_index marks i ≡ 0
 
--- a memory keeps its banks, the table among them, and each word in flight for a core among those that the core has flushed
+-- A memory keeps its banks, the table among them, and each word in flight for a core among those that the core has
+-- flushed.
 pub record IsSound (banks : List (Option BankWords)) (flushes : List Flushes) : Type 0 where
   pub banks_sized : AreBanks banks
   pub table : is_some (bank_at banks 0) ≡ true

@@ -1,7 +1,7 @@
 -- What contracts see of a memory, and of a frame that it has lent.
-use Rattle.std.specs.Prelude.{◌≡◌, ◌≢◌, ℕ, ◌+◌, ◌-◌, ◌^◌, ◌<◌, Bool, true, ◌||◌, nat_lt, min, List, Option, is_some}
+use Rattle.std.specs.Prelude.{◌≡◌, ◌≢◌, ℕ, ◌+◌, ◌-◌, ◌^◌, ◌<◌, Bool, true, ◌||◌, ◌==◌, if◌then◌else◌, nat_lt, min, List, Option, is_some}
 pub use Rattle.sls_base.specs.Counts.{one_more as count_up}
-use Rattle.sls_base.specs.declared.limits.TheConstants.{TABLE_WORDS, FRAMES}
+use Rattle.sls_base.specs.declared.limits.TheConstants.{TABLE_WORDS, FRAMES, VERSION_AT}
 use Rattle.pmem_model.specs.Words.{Word, BankWords}
 use Rattle.pmem_model.specs.Places.{bank_of, bank_start, word_among, bank_at}
 
@@ -39,6 +39,11 @@ SameHomes old new = (k : ℕ) → is_some (bank_at new.banks k) ≡ is_some (ban
 -- the same frames are at home, but perhaps for one
 abbrev pub SameHomesBut : ℕ → Memory → Memory → Type 0
 SameHomesBut frame old new = (k : ℕ) → k ≢ 1 + frame → is_some (bank_at new.banks k) ≡ is_some (bank_at old.banks k)
+
+-- how many commits there were behind an event: one more where it changed the durable version
+abbrev pub commits_behind : Memory → Memory → ℕ
+commits_behind old new =
+    if (word_at new VERSION_AT).durable == (word_at old VERSION_AT).durable then old.commits else count_up old.commits
 
 -- a frame that was lent: its words, and how many copies, flushes and fences there were since
 pub record LentFrame : Type 0 where

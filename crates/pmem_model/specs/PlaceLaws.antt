@@ -104,7 +104,8 @@ place_cases at h =
 -- a frame is at home where its words are
 pub home-frame : (m : Memory) (f o : ℕ) → o < 512 → is_at_home m (17920 + 512 * f + o) ≡ is_frame_home m f
 home-frame m f o h =
-    let high : nat_lt (17920 + 512 * f + o) TABLE_WORDS ≡ false = grind (arith, nat_tests) in rw (high, bank_of-frame f o h) refl
+    let high : nat_lt (17920 + 512 * f + o) TABLE_WORDS ≡ false = grind (arith, nat_tests) in
+    rw (high, bank_of-frame f o h) refl
 
 -- the table is always at home
 pub table_home : (m : Memory) (at : ℕ) → at < TABLE_WORDS → is_at_home m at ≡ true

@@ -3,7 +3,7 @@
 ghost use Rattle.std.specs.Prelude.{◌≡◌, ◌≢◌, ℕ, ◌+◌, ◌-◌, ◌*◌, ◌%◌, ◌<◌, ◌≤◌, ◌==◌, IsTrue, length, slice_index, if◌then◌else◌, IfSome, IfNone, IfOk, false, Some, None, slice_set};
 ghost use Rattle.pmem_model.specs.Words.{is_within, word_in, bursts, flushes, fences, writes_back, cuts};
 ghost use Rattle.pmem_model.specs.Places.{bank_of, offset_of, bank_size, bank_at, zero_word};
-ghost use Rattle.pmem_model.specs.Memory.{word_at, is_at_home, is_frame_home, frame_begin, AllHome, SameHomes, SameHomesBut, count_up, count_by};
+ghost use Rattle.pmem_model.specs.Memory.{word_at, is_at_home, is_frame_home, frame_begin, AllHome, SameHomes, SameHomesBut, count_up, count_by, commits_behind};
 
 use crate::banks::Banks;
 use crate::flushes::FlushesByCore;
@@ -163,8 +163,7 @@ impl Pmem {
         ensures counts { self.new ≡ record self.old {
           banks = self.new.banks;
           ops = count_up self.old.ops;
-          commits = (if (word_at self.new VERSION_AT).durable == (word_at self.old VERSION_AT).durable then self.old.commits
-              else count_up self.old.commits);
+          commits = commits_behind self.old self.new;
         } }
     {
         let before = banks::values(&self.banks, VERSION_AT).1;
@@ -182,8 +181,7 @@ impl Pmem {
         ensures homes { SameHomes self.old self.new }
         ensures counts { self.new ≡ record self.old {
           banks = self.new.banks;
-          commits = (if (word_at self.new VERSION_AT).durable == (word_at self.old VERSION_AT).durable then self.old.commits
-              else count_up self.old.commits);
+          commits = commits_behind self.old self.new;
         } }
     {
         let before = banks::values(&self.banks, VERSION_AT).1;

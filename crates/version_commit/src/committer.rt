@@ -31,7 +31,8 @@ pub fn version(nvm: &Pmem) -> Version
 impl Committer {
     /// Neither word is on its way.
     pub fn new() -> Committer
-        ensures format { (f : ℕ → Word) (word : ℕ) → WordIs LEADER Clean (f FORMAT_AT) word → FormatShows result f word word }
+        ensures format { (f : ℕ → Word) (word : ℕ) → WordIs LEADER Clean (f FORMAT_AT) word
+            → FormatShows result f word word }
         ensures version { (f : ℕ → Word) (v : ℕ) → WordIs LEADER Clean (f VERSION_AT) v → VersionShows result f v v }
     {
         Committer {
