@@ -1,10 +1,11 @@
 //! The log's entries and its head.
 
-ghost use Rattle.std.specs.Prelude.{◌≡◌, ◌<◌, ◌^◌, ◌↔◌, Some, IfSome, IsNone};
+ghost use Rattle.std.specs.Prelude.{◌≡◌, ◌*◌, ◌<◌, ◌≤◌, ◌^◌, ◌↔◌, Some, IfSome, IsNone};
 
 use crate::field::bits;
 use crate::format::EMPTY_WORD;
 use crate::number::Number;
+use crate::places::NUMBERS;
 use sls_base::Version;
 
 /// The bits below the version in the head.
@@ -40,6 +41,7 @@ impl LogEntry {
     pub fn from_word(word: u64) -> Option<LogEntry>
         ensures found { IfSome result (λ entry. IsEntry entry × (entry_word entry ≡ word)) }
         ensures only { (entry : LogEntry) → IsEntry entry → entry_word entry ≡ word → result ≡ Some entry }
+        ensures none { IsNone result ↔ (2 * NUMBERS ≤ word) }
     {
         Some(LogEntry {
             number: Number::from_index((word / 2) as usize)?,

@@ -1,6 +1,6 @@
 //! The numbers of objects and pages, in one row.
 
-ghost use Rattle.std.specs.Prelude.{◌≡◌, ◌<◌, ◌≤◌, ◌+◌, ℕ, Some, IfSome};
+ghost use Rattle.std.specs.Prelude.{◌≡◌, ◌<◌, ◌≤◌, ◌+◌, ◌↔◌, ℕ, Some, IfSome, IsNone};
 
 use crate::places::{BASE_BITS, NUMBERS, OBJECT_BASE_AT, PAGE_BASE_END};
 use sls_base::{OBJECTS, ObjId, PageNo};
@@ -42,6 +42,7 @@ impl Number {
     pub fn from_index(index: usize) -> Option<Number>
         ensures found { IfSome result (λ number. IsNumber number × (index_of number ≡ index)) }
         ensures only { (number : Number) → IsNumber number → index_of number ≡ index → result ≡ Some number }
+        ensures none { IsNone result ↔ (NUMBERS ≤ index) }
     {
         if index < OBJECTS {
             Some(Number::Object(index as ObjId))
