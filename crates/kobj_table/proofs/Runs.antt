@@ -2,7 +2,7 @@
 use Rattle.std.specs.Prelude.{◌≡◌, ℕ, zero, suc, List, [], ◌∷◌, map, take, Option, option_map, slice_set}
 use Rattle.std.proofs.Common.{refl, ap, ◌∙◌}
 use Rattle.std.proofs.lemmas.List.{map-set}
-use Rattle.plain_model.specs.declared.objects.Occupant.{Occupant}
+use Rattle.plain_state.specs.declared.objects.Occupant.{Occupant}
 use Rattle.kobj_table.specs.Slots.{occupant_of}
 
 take_set : {X : Type 0} → (n k : ℕ) (xs : List X) (x : X) → take n (slice_set xs k x) ≡ slice_set (take n xs) k x

@@ -6,7 +6,7 @@ use mathlib.Core.Path.{fun_ext}
 use Rattle.sls_base.specs.declared.fixed.TheConstants.{SCHEDULER}
 use Rattle.link_lists.specs.Lists.{list_at}
 use Rattle.ipc_note.specs.declared.lists.TheConstants.{RUN_QUEUE}
-use Rattle.plain_model.specs.declared.objects.Occupant.{Occupant}
+use Rattle.plain_state.specs.declared.objects.Occupant.{Occupant}
 use Rattle.plain_model.specs.Objects.{Object}
 use Rattle.plain_model.specs.States.{State}
 use Rattle.kobj_table.specs.declared.slot.Slot.{Slot}

@@ -3,8 +3,8 @@ use Rattle.std.specs.Prelude.{◌≡◌, ◌≢◌, ℕ, ◌==◌, true, false, 
 use Rattle.link_lists.specs.Lists.{list_at}
 use Rattle.ipc_note.specs.declared.lists.TheConstants.{RUN_QUEUE}
 use Rattle.sls_base.specs.declared.fixed.TheConstants.{SCHEDULER}
-use Rattle.plain_model.specs.declared.objects.Occupant.{Occupant}
-use Rattle.plain_model.specs.declared.objects.Kind.{Kind}
+use Rattle.plain_state.specs.declared.objects.Occupant.{Occupant}
+use Rattle.plain_state.specs.declared.objects.Kind.{Kind}
 use Rattle.plain_model.specs.Objects.{Object, is_kind}
 use Rattle.plain_model.specs.States.{State, with_object}
 use Rattle.kobj_table.specs.declared.slot.Slot.{Slot}

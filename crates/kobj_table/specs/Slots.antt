@@ -6,9 +6,9 @@ use Rattle.mem_space.specs.declared.region.Region.{Region}
 use Rattle.mem_space.specs.declared.memory.MemPage.{MemPage}
 use Rattle.mem_space.specs.declared.memory.Memory.{Memory}
 use Rattle.mem_space.specs.declared.space.Space.{Space}
-use Rattle.plain_model.specs.declared.objects.Capability.{Capability}
-use Rattle.plain_model.specs.declared.objects.Occupant.{Occupant}
-use Rattle.plain_model.specs.declared.objects.Region.{Region as PlainRegion}
+use Rattle.plain_state.specs.declared.objects.Capability.{Capability}
+use Rattle.plain_state.specs.declared.objects.Occupant.{Occupant}
+use Rattle.plain_state.specs.declared.objects.Region.{Region as PlainRegion}
 use Rattle.plain_model.specs.Objects as plain
 use Rattle.plain_model.specs.Objects.{Object, Page}
 use Rattle.kobj_table.specs.declared.slot.Slot.{Slot}

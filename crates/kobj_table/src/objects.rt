@@ -7,7 +7,7 @@ ghost use Rattle.mem_space.specs.Memory.{MarksPage};
 ghost use Rattle.plain_model.specs.Objects as plain;
 ghost use Rattle.plain_model.specs.Objects.{Object, is_thread};
 ghost use Rattle.plain_model.specs.States.{thread_at};
-ghost use Rattle.plain_model.specs.declared.objects.Kind.TheVariants.{GroupKind, SpaceKind, MemoryKind, ConnectionKind, NotificationKind, OutputKind, InputKind};
+ghost use Rattle.plain_state.specs.declared.objects.Kind.TheVariants.{GroupKind, SpaceKind, MemoryKind, ConnectionKind, NotificationKind, OutputKind, InputKind};
 ghost use Rattle.kobj_table.specs.declared.slot.Cores.{Cores};
 ghost use Rattle.kobj_table.specs.Slots.{object_of, is_scheduler, occupant_of};
 
@@ -168,7 +168,7 @@ impl Objects {
     }
 
     /// The thread of a number, to be lent; where there is none it is one of zeros.
-    #[tactic(auto, unfolding(crate::specs::Objects::state_of, plain_model::specs::States::zero_registers))]
+    #[tactic(auto, unfolding(crate::specs::Objects::state_of, plain_state::specs::States::zero_registers))]
     pub fn thread_or_zeros(&self, id: ObjId) -> Thread
         ensures { (rest : Rest) → result ≡ thread_at (state_of self.now rest) id }
     {

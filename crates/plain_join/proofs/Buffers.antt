@@ -8,8 +8,8 @@ use Rattle.std.proofs.lemmas.Nat.{shr-shr}
 use mathlib.Core.Path.{fun_ext}
 use Rattle.sls_base.specs.declared.limits.TheConstants.{PAGE_BYTES}
 use Rattle.sls_kernel.specs.Plain.{covers as is_in_page, number_at, bytes_at, stored_at}
-use Rattle.plain_model.specs.declared.effect.Place.{Place}
-use Rattle.plain_model.specs.declared.objects.Region.{Region}
+use Rattle.plain_state.specs.declared.effect.Place.{Place}
+use Rattle.plain_state.specs.declared.objects.Region.{Region}
 use Rattle.plain_model.specs.Objects.{Object, includes}
 use Rattle.plain_model.specs.Memory.{covers, place_of, is_covered, places_of, byte_at, with_store, with_stores, stores_at, number_of_bytes, bytes_of_number}
 use Rattle.plain_join.specs.Joined.{memory_object}

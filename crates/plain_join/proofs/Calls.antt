@@ -11,13 +11,13 @@ use Rattle.sls_base.specs.declared.rights.TheConstants.{READ, WRITE}
 use Rattle.sls_kernel.specs.declared.calls.Refusal.{Refusal as ProgramRefusal}
 use Rattle.sls_kernel.specs.declared.calls.Refusal.TheVariants.{BadCall as NoCall, NoCap as NoCapability, WrongKind as OtherKind, BadAddress as NoAddress, BadSize as NoSize, Full as NoRoom}
 use Rattle.sls_kernel.specs.Plain.{State as ProgramState, World as ProgramWorld, Outcome, GoesOn, Stops, covers as is_in_page, bytes_at, register, answered, refusal_number as program_number, is_empty_slot, is_output_slot, is_full, put_refusal, put_done, call as program_call, accepted_count}
-use Rattle.plain_model.specs.declared.objects.Capability.{Capability}
-use Rattle.plain_model.specs.declared.objects.Kind.TheVariants.{OutputKind}
-use Rattle.plain_model.specs.declared.effect.Goes.TheVariants.{On, Stop}
-use Rattle.plain_model.specs.declared.effect.Output.{Output}
-use Rattle.plain_model.specs.declared.calls.Call.TheVariants.{Put}
-use Rattle.plain_model.specs.declared.calls.Refusal.{Refusal}
-use Rattle.plain_model.specs.declared.calls.Refusal.TheVariants.{BadCall, NoCap, WrongKind, NoRight, BadAddress, BadSize, Overlap, NoSlot, NoObjects, NoPages, NoRegions, Full, Empty, Taken}
+use Rattle.plain_state.specs.declared.objects.Capability.{Capability}
+use Rattle.plain_state.specs.declared.objects.Kind.TheVariants.{OutputKind}
+use Rattle.plain_state.specs.declared.effect.Goes.TheVariants.{On, Stop}
+use Rattle.plain_state.specs.declared.effect.Output.{Output}
+use Rattle.plain_state.specs.declared.calls.Call.TheVariants.{Put}
+use Rattle.plain_state.specs.declared.calls.Refusal.{Refusal}
+use Rattle.plain_state.specs.declared.calls.Refusal.TheVariants.{BadCall, NoCap, WrongKind, NoRight, BadAddress, BadSize, Overlap, NoSlot, NoObjects, NoPages, NoRegions, Full, Empty, Taken}
 use Rattle.plain_model.specs.Objects.{Object, OutputRing, is_kind, includes}
 use Rattle.plain_model.specs.Memory.{byte_at, places_of}
 use Rattle.plain_model.specs.Effects.{Effect, answers, stops}

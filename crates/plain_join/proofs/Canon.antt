@@ -11,9 +11,9 @@ use Rattle.sls_base.specs.declared.image.Program.{Program}
 use Rattle.sls_base.specs.declared.image.RegionSpec.{RegionSpec}
 use Rattle.sls_kernel.specs.Plain.{State as ProgramState, initial as program_initial}
 use Rattle.sls_kernel.specs.Program.{IsOfCode, AreCodePrograms, AreCodeRegions, IsCodeProgram, IsCodeRegion, program_bytes, program_content, region_content}
-use Rattle.plain_model.specs.declared.objects.Capability.{Capability}
-use Rattle.plain_model.specs.declared.objects.Occupant.{Occupant}
-use Rattle.plain_model.specs.declared.objects.Region.{Region}
+use Rattle.plain_state.specs.declared.objects.Capability.{Capability}
+use Rattle.plain_state.specs.declared.objects.Occupant.{Occupant}
+use Rattle.plain_state.specs.declared.objects.Region.{Region}
 use Rattle.plain_model.specs.Objects.{Object, Group, Space, OutputRing, InputRing, Scheduler, empty_slots}
 use Rattle.plain_model.specs.States.{State, with_object, zero_registers}
 use Rattle.plain_model.specs.Initial.{initial, image_objects, all_rights, memory_of, program_thread, thread_numbers}

@@ -10,10 +10,10 @@ use Rattle.sls_kernel.specs.declared.thread.RunThread.{RunThread}
 use Rattle.sls_kernel.specs.declared.thread.Status.{Status}
 use Rattle.sls_kernel.specs.declared.thread.Status.TheVariants.{Ready as IsReady, Running as IsRunning, Stopped as HasStopped}
 use Rattle.sls_kernel.specs.Plain.{State as ProgramState, Outcome, GoesOn, Stops, sliced, with_status}
-use Rattle.plain_model.specs.declared.effect.Goes.{Goes}
-use Rattle.plain_model.specs.declared.effect.Goes.TheVariants.{On, Back, Stop}
-use Rattle.plain_model.specs.declared.effect.Place.{Place}
-use Rattle.plain_model.specs.declared.objects.Occupant.{Occupant}
+use Rattle.plain_state.specs.declared.effect.Goes.{Goes}
+use Rattle.plain_state.specs.declared.effect.Goes.TheVariants.{On, Back, Stop}
+use Rattle.plain_state.specs.declared.effect.Place.{Place}
+use Rattle.plain_state.specs.declared.objects.Occupant.{Occupant}
 use Rattle.plain_model.specs.Objects.{Object, Thread}
 use Rattle.plain_model.specs.States.{with_object}
 use Rattle.plain_model.specs.Memory.{with_stores}

@@ -13,8 +13,8 @@ use Rattle.rv_core.specs.declared.registers.Plan.TheVariants.{Set, Load, Store, 
 use Rattle.rv_core.specs.declared.registers.Regs.{Regs}
 use Rattle.rv_core.specs.Effect.{effect, jump, size_of, extended, with_register, plus, is_taken, register as register_of}
 use Rattle.sls_kernel.specs.Plain.{State as ProgramState, World as ProgramWorld, Outcome, GoesOn, Stops, covers as is_in_page, number_at, stored_at, register, set_register, next_pc as program_next, accepted_count, carried_out as program_carried_out, obeyed as program_obeyed, instruction as program_instruction}
-use Rattle.plain_model.specs.declared.effect.Goes.TheVariants.{On}
-use Rattle.plain_model.specs.declared.effect.Place.{Place}
+use Rattle.plain_state.specs.declared.effect.Goes.TheVariants.{On}
+use Rattle.plain_state.specs.declared.effect.Place.{Place}
 use Rattle.plain_model.specs.Memory.{is_covered, places_of}
 use Rattle.plain_model.specs.Effects.{Effect, goes_on, stops, next_pc}
 use Rattle.plain_model.specs.Instructions.{instruction, obeyed, carried_out, with_fetch, fetched, value_at, load_effect, store_effect}

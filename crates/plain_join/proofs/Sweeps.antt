@@ -9,7 +9,7 @@ use Rattle.sls_base.proofs.ListTests.{IsIn, or_left, or_right, and_both, any_in,
 use Rattle.sls_kernel.specs.declared.thread.Status.{Status}
 use Rattle.sls_kernel.specs.declared.thread.Status.TheVariants.{Ready as IsReady, Running as IsRunning, Stopped as HasStopped}
 use Rattle.sls_kernel.specs.Plain.{State as ProgramState}
-use Rattle.plain_model.specs.declared.objects.Occupant.{Occupant}
+use Rattle.plain_state.specs.declared.objects.Occupant.{Occupant}
 use Rattle.plain_model.specs.Objects.{Object, every_object}
 use Rattle.plain_model.specs.States.{State}
 use Rattle.plain_model.specs.Sweep.{leads_to, is_within, is_reached, swept, settled, settled_state, kept_on_core}

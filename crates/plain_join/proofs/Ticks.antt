@@ -7,7 +7,7 @@ use Rattle.sls_kernel.specs.declared.thread.Status.{Status}
 use Rattle.sls_kernel.specs.declared.thread.Status.TheVariants.{Ready as IsReady, Running as IsRunning, Stopped as HasStopped}
 use Rattle.sls_kernel.specs.Plain.{World as ProgramWorld, Outcome, accepted_count, ticked_by, sliced, is_stopped, instruction as program_instruction, tick as program_tick}
 use Rattle.sls_kernel.specs.Program.{IsOfCode}
-use Rattle.plain_model.specs.declared.label.Reply.TheVariants.{Retired, Idle, Wished}
+use Rattle.plain_state.specs.declared.label.Reply.TheVariants.{Retired, Idle, Wished}
 use Rattle.plain_model.specs.Worlds.{World}
 use Rattle.plain_model.specs.Ticks.{Chosen, own_or_front, ticked, tick, reply_for, tick_reply, effect_for, world_of_effect}
 use Rattle.plain_join.specs.Joined.{IsJoined, MakesKnownCall, queue_of, occupant_of}

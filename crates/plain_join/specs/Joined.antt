@@ -13,10 +13,10 @@ use Rattle.sls_kernel.specs.declared.thread.RunThread.{RunThread}
 use Rattle.sls_kernel.specs.declared.thread.Status.{Status}
 use Rattle.sls_kernel.specs.declared.thread.Status.TheVariants.{Ready as IsReady, Running as IsRunning, Stopped as HasStopped}
 use Rattle.sls_kernel.specs.Plain.{State as ProgramState, World as ProgramWorld, covers, number_at, register}
-use Rattle.plain_model.specs.declared.calls.TheConstants.{CALL_NUMBER}
-use Rattle.plain_model.specs.declared.label.Reply.{Reply}
-use Rattle.plain_model.specs.declared.label.Reply.TheVariants.{Took, NoEntry}
-use Rattle.plain_model.specs.declared.objects.Occupant.{Occupant}
+use Rattle.plain_state.specs.declared.calls.TheConstants.{CALL_NUMBER}
+use Rattle.plain_state.specs.declared.label.Reply.{Reply}
+use Rattle.plain_state.specs.declared.label.Reply.TheVariants.{Took, NoEntry}
+use Rattle.plain_state.specs.declared.objects.Occupant.{Occupant}
 use Rattle.plain_model.specs.Objects.{Object, Thread, Memory}
 use Rattle.plain_model.specs.States.{State, with_object}
 use Rattle.plain_model.specs.Worlds.{World}

@@ -2,8 +2,8 @@
 
 ghost use Rattle.std.specs.Prelude.{◌≡◌, ℕ, if◌then◌else◌};
 ghost use Rattle.sls_base.specs.declared.image.Image.{Image};
-ghost use Rattle.plain_model.specs.declared.label.Label.TheVariants.{Accept};
-ghost use Rattle.plain_model.specs.declared.label.Reply.TheVariants.{Idle, Retired};
+ghost use Rattle.plain_state.specs.declared.label.Label.TheVariants.{Accept};
+ghost use Rattle.plain_state.specs.declared.label.Reply.TheVariants.{Idle, Retired};
 ghost use Rattle.plain_model.specs.Worlds.{World};
 ghost use Rattle.plain_model.specs.Initial.{first_world};
 ghost use Rattle.plain_model.specs.Ticks.{tick, tick_reply};

@@ -13,11 +13,11 @@ use Rattle.sls_base.specs.declared.limits.TheConstants.{RING_ENTRIES, INSTRUCTIO
 use Rattle.sls_base.specs.declared.rights.TheConstants.{EXECUTE}
 use Rattle.sls_base.specs.declared.causes.TheConstants.{NO_ACCESS}
 use Rattle.sls_base.specs.declared.thread.Thread.{Thread as ThreadRecord}
-use Rattle.plain_model.specs.declared.calls.Need.{Need}
-use Rattle.plain_model.specs.declared.calls.Refusal.{Refusal}
-use Rattle.plain_model.specs.declared.calls.Refusal.TheVariants.{NoCap, WrongKind, NoRight, NoObjects, NoPages, Full}
-use Rattle.plain_model.specs.declared.calls.Call.{Call}
-use Rattle.plain_model.specs.declared.calls.Call.TheVariants.{Put, MemNew, SpaceNew, GroupNew, ThreadNew, NoteNew, ConnNew}
+use Rattle.plain_state.specs.declared.calls.Need.{Need}
+use Rattle.plain_state.specs.declared.calls.Refusal.{Refusal}
+use Rattle.plain_state.specs.declared.calls.Refusal.TheVariants.{NoCap, WrongKind, NoRight, NoObjects, NoPages, Full}
+use Rattle.plain_state.specs.declared.calls.Call.{Call}
+use Rattle.plain_state.specs.declared.calls.Call.TheVariants.{Put, MemNew, SpaceNew, GroupNew, ThreadNew, NoteNew, ConnNew}
 use Rattle.plain_model.specs.Objects.{Object, OutputRing, every_object, every_page}
 use Rattle.plain_model.specs.Memory.{is_covered}
 use Rattle.plain_model.specs.Worlds.{World, accepted_count, put_count, is_ring_full, is_used_object, is_used_page, free_objects, free_pages}

@@ -6,8 +6,8 @@ use Rattle.std.proofs.lemmas.Bool.{cases_eq, cases_lt, eq-eqb}
 use Rattle.std.proofs.lemmas.List.{get_or-take, length-take}
 use Rattle.std.proofs.lemmas.List.Elements.{All-contains}
 use Rattle.sls_base.specs.declared.limits.TheConstants.{OBJECTS, PAGES}
-use Rattle.plain_model.specs.declared.effect.ByteStore.{ByteStore}
-use Rattle.plain_model.specs.declared.effect.Place.{Place}
+use Rattle.plain_state.specs.declared.effect.ByteStore.{ByteStore}
+use Rattle.plain_state.specs.declared.effect.Place.{Place}
 use Rattle.plain_model.specs.Objects.{Object, Memory, Page, page_numbers, new_memory, every_object}
 use Rattle.plain_model.specs.States.{State, with_object}
 use Rattle.plain_model.specs.Memory.{memory_with, with_store, with_stores, page_with, no_page}

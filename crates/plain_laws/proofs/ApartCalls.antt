@@ -5,8 +5,8 @@ use Rattle.rv_core.specs.Effect.{with_register}
 use Rattle.sls_base.specs.declared.rights.TheConstants.{ALL_RIGHTS}
 use Rattle.sls_base.specs.declared.causes.TheConstants.{ILLEGAL_WORD, NO_ACCESS}
 use Rattle.sls_base.specs.declared.thread.Thread.{Thread as ThreadRecord}
-use Rattle.plain_model.specs.declared.calls.Call.{Call}
-use Rattle.plain_model.specs.declared.calls.Call.TheVariants.{Yield, Halt, Put, Get, MemNew, Map, Unmap, SpaceNew, GroupNew, CapCopy, CapDrop, ThreadNew, NoteNew, Signal, Wait, ConnNew, ConnCall, Serve, Checkpoint}
+use Rattle.plain_state.specs.declared.calls.Call.{Call}
+use Rattle.plain_state.specs.declared.calls.Call.TheVariants.{Yield, Halt, Put, Get, MemNew, Map, Unmap, SpaceNew, GroupNew, CapCopy, CapDrop, ThreadNew, NoteNew, Signal, Wait, ConnNew, ConnCall, Serve, Checkpoint}
 use Rattle.plain_model.specs.Objects.{Object, Connection, Notification, new_memory}
 use Rattle.plain_model.specs.States.{State, with_object, thread_at}
 use Rattle.plain_model.specs.Memory.{with_stores}

@@ -11,7 +11,7 @@ use Rattle.sls_base.specs.declared.fixed.TheConstants.{FIRST_PROGRAM_OBJECT, FIR
 use Rattle.sls_base.specs.declared.image.Image.{Image}
 use Rattle.sls_base.specs.declared.image.Program.{Program}
 use Rattle.sls_base.specs.declared.image.RegionSpec.{RegionSpec}
-use Rattle.plain_model.specs.declared.label.Label.{Label}
+use Rattle.plain_state.specs.declared.label.Label.{Label}
 use Rattle.plain_model.specs.Objects.{Object, Page, page_numbers}
 use Rattle.plain_model.specs.Play.{play}
 use Rattle.plain_model.specs.Initial.{program_memories, program_thread, program_objects, programs_objects, program_size, program_pages, pages_taken, memory_of, page_of_content, image_objects, initial, first_world, IsAccepted}

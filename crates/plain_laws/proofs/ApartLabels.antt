@@ -1,8 +1,8 @@
 -- Pages of objects: each label of a world keeps them apart.
 use Rattle.std.specs.Prelude.{◌≡◌, ◌≢◌, ℕ, Bool, true, false, if◌then◌else◌, List, [], ◌∷◌, AllPairs, Contains, Option, Some, None, option_map}
 use Rattle.std.proofs.Common.{refl, ap, sym, subst, inl, inr}
-use Rattle.plain_model.specs.declared.label.Label.{Label}
-use Rattle.plain_model.specs.declared.label.Label.TheVariants.{Tick, Commit, Cut, Accept, Input}
+use Rattle.plain_state.specs.declared.label.Label.{Label}
+use Rattle.plain_state.specs.declared.label.Label.TheVariants.{Tick, Commit, Cut, Accept, Input}
 use Rattle.plain_model.specs.Objects.{Object, Thread, Memory, OutputRing, page_numbers}
 use Rattle.plain_model.specs.States.{State, thread_at}
 use Rattle.plain_model.specs.Memory.{with_stores}

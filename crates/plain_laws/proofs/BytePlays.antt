@@ -2,7 +2,7 @@
 use Rattle.std.specs.Prelude.{ℕ, List, [], ◌∷◌, All}
 use Rattle.std.proofs.lemmas.List.Elements.{All-head, All-tail}
 use Rattle.sls_base.specs.declared.image.Image.{Image}
-use Rattle.plain_model.specs.declared.label.Label.{Label}
+use Rattle.plain_state.specs.declared.label.Label.{Label}
 use Rattle.plain_model.specs.Worlds.{World}
 use Rattle.plain_model.specs.Play.{after, play}
 use Rattle.plain_model.specs.Initial.{IsAccepted, first_world}

@@ -5,9 +5,9 @@ use Rattle.std.proofs.Common.{refl, ap, sym, ◌∙◌, get_or-set_other}
 use Rattle.std.proofs.lemmas.Bool.{ne_eqb, eqb-false}
 use Rattle.sls_base.proofs.ListTests.{or_false}
 use Rattle.sls_base.specs.declared.limits.TheConstants.{CORE_SLICE}
-use Rattle.plain_model.specs.declared.objects.Occupant.{Occupant}
-use Rattle.plain_model.specs.declared.effect.ByteStore.{ByteStore}
-use Rattle.plain_model.specs.declared.effect.Output.{Output}
+use Rattle.plain_state.specs.declared.objects.Occupant.{Occupant}
+use Rattle.plain_state.specs.declared.effect.ByteStore.{ByteStore}
+use Rattle.plain_state.specs.declared.effect.Output.{Output}
 use Rattle.plain_model.specs.Objects.{Object, Thread}
 use Rattle.plain_model.specs.States.{thread_at, with_object}
 use Rattle.plain_model.specs.Memory.{with_store, with_stores}

@@ -3,7 +3,7 @@ use Rattle.std.specs.Prelude.{◌≡◌, ℕ, ◌-◌, List, None, length}
 use Rattle.std.proofs.Common.{◌∙◌}
 use Rattle.std.proofs.lemmas.List.{length-set, length-map, length-replicate}
 use Rattle.sls_base.specs.declared.image.Image.{Image}
-use Rattle.plain_model.specs.declared.label.Label.{Label}
+use Rattle.plain_state.specs.declared.label.Label.{Label}
 use Rattle.plain_model.specs.States.{State}
 use Rattle.plain_model.specs.Worlds.{World}
 use Rattle.plain_model.specs.Effects.{Effect}

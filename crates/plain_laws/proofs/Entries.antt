@@ -10,11 +10,11 @@ use Rattle.sls_base.specs.declared.limits.TheConstants.{ENTRY_BYTES, OUTPUT_CHAN
 use Rattle.sls_base.specs.declared.rights.TheConstants.{READ}
 use Rattle.sls_base.specs.declared.image.Image.{Image}
 use Rattle.sls_base.specs.declared.thread.Thread.{Thread as ThreadRecord}
-use Rattle.plain_model.specs.declared.calls.Call.TheVariants.{Put}
-use Rattle.plain_model.specs.declared.calls.Refusal.TheVariants.{WrongKind, BadAddress, BadSize}
-use Rattle.plain_model.specs.declared.effect.Output.{Output}
-use Rattle.plain_model.specs.declared.label.Label.{Label}
-use Rattle.plain_model.specs.declared.objects.Kind.TheVariants.{OutputKind}
+use Rattle.plain_state.specs.declared.calls.Call.TheVariants.{Put}
+use Rattle.plain_state.specs.declared.calls.Refusal.TheVariants.{WrongKind, BadAddress, BadSize}
+use Rattle.plain_state.specs.declared.effect.Output.{Output}
+use Rattle.plain_state.specs.declared.label.Label.{Label}
+use Rattle.plain_state.specs.declared.objects.Kind.TheVariants.{OutputKind}
 use Rattle.plain_model.specs.Objects.{Object, OutputRing, is_kind, regions_of}
 use Rattle.plain_model.specs.States.{State, thread_at}
 use Rattle.plain_model.specs.Memory.{is_covered, places_of, byte_at}

@@ -15,8 +15,8 @@ use Rattle.rv_core.specs.Effect.{effect, size_of, is_taken, register, plus, next
 use Rattle.sls_base.specs.declared.limits.TheConstants.{PAGE_BYTES, ENTRY_BYTES, INSTRUCTION_BYTES}
 use Rattle.sls_base.specs.declared.rights.TheConstants.{READ, WRITE, EXECUTE}
 use Rattle.sls_base.specs.declared.thread.Thread.{Thread as ThreadRecord}
-use Rattle.plain_model.specs.declared.calls.Call.TheVariants.{Put, Get}
-use Rattle.plain_model.specs.declared.calls.Refusal.TheVariants.{BadSize}
+use Rattle.plain_state.specs.declared.calls.Call.TheVariants.{Put, Get}
+use Rattle.plain_state.specs.declared.calls.Refusal.TheVariants.{BadSize}
 use Rattle.plain_model.specs.Objects.{Object, Thread}
 use Rattle.plain_model.specs.States.{State, thread_of, thread_at}
 use Rattle.plain_model.specs.Memory.{places_of, bytes_of_number}

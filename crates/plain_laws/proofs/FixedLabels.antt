@@ -5,7 +5,7 @@ use Rattle.sls_base.specs.declared.limits.TheConstants.{OUTPUT_CHANNELS}
 use Rattle.sls_base.specs.declared.fixed.TheConstants.{FIRST_OUTPUT_RING, FIRST_PROGRAM_OBJECT, FIRST_PROGRAM_PAGE}
 use Rattle.sls_base.specs.declared.image.Image.{Image}
 use Rattle.sls_base.specs.declared.image.Program.{Program}
-use Rattle.plain_model.specs.declared.label.Label.{Label}
+use Rattle.plain_state.specs.declared.label.Label.{Label}
 use Rattle.plain_model.specs.Objects.{Object, OutputRing, page_numbers}
 use Rattle.plain_model.specs.States.{thread_at}
 use Rattle.plain_model.specs.Worlds.{World}

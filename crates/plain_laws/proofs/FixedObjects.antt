@@ -4,10 +4,10 @@ use Rattle.std.proofs.Common.{refl, ap, ◌∙◌, arith}
 use Rattle.sls_base.specs.declared.fixed.TheConstants.{ROOT_GROUP, SCHEDULER, FIRST_OUTPUT_RING, INPUT_RING, FIRST_PROGRAM_OBJECT}
 use Rattle.sls_base.specs.declared.thread.Thread.{Thread as ThreadRecord}
 use Rattle.sls_base.specs.declared.thread.ThreadState.{ThreadState}
-use Rattle.plain_model.specs.declared.effect.Place.{Place}
-use Rattle.plain_model.specs.declared.objects.Capability.{Capability}
-use Rattle.plain_model.specs.declared.objects.Region.{Region}
-use Rattle.plain_model.specs.declared.objects.Kind.TheVariants.{GroupKind, SpaceKind}
+use Rattle.plain_state.specs.declared.effect.Place.{Place}
+use Rattle.plain_state.specs.declared.objects.Capability.{Capability}
+use Rattle.plain_state.specs.declared.objects.Region.{Region}
+use Rattle.plain_state.specs.declared.objects.Kind.TheVariants.{GroupKind, SpaceKind}
 use Rattle.plain_model.specs.Objects.{Object, Group, Thread, Space, Memory, Connection, Notification, is_kind, page_numbers}
 use Rattle.plain_model.specs.States.{State}
 use Rattle.plain_model.specs.Memory.{memory_with}

@@ -3,11 +3,11 @@ use Rattle.std.specs.Prelude.{◌≡◌, ℕ, ◌-◌, ◌==◌, Bool, true, fal
 use Rattle.std.proofs.Common.{refl, arith}
 use Rattle.std.proofs.lemmas.List.{length-set}
 use Rattle.sls_base.specs.declared.thread.Thread.{Thread as ThreadRecord}
-use Rattle.plain_model.specs.declared.effect.ByteStore.{ByteStore}
-use Rattle.plain_model.specs.declared.effect.Goes.{Goes}
-use Rattle.plain_model.specs.declared.effect.Place.{Place}
-use Rattle.plain_model.specs.declared.label.Label.{Label}
-use Rattle.plain_model.specs.declared.label.Label.TheVariants.{Tick, Commit, Cut, Accept, Input}
+use Rattle.plain_state.specs.declared.effect.ByteStore.{ByteStore}
+use Rattle.plain_state.specs.declared.effect.Goes.{Goes}
+use Rattle.plain_state.specs.declared.effect.Place.{Place}
+use Rattle.plain_state.specs.declared.label.Label.{Label}
+use Rattle.plain_state.specs.declared.label.Label.TheVariants.{Tick, Commit, Cut, Accept, Input}
 use Rattle.plain_model.specs.Objects.{Object, Thread, Memory, Connection, Notification}
 use Rattle.plain_model.specs.States.{State, thread_at, with_object}
 use Rattle.plain_model.specs.Memory.{memory_with, with_store, with_stores, page_with, no_page}

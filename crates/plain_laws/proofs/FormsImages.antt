@@ -10,8 +10,8 @@ use Rattle.sls_base.specs.declared.fixed.TheConstants.{ROOT_GROUP, FIRST_OUTPUT_
 use Rattle.sls_base.specs.declared.image.Image.{Image}
 use Rattle.sls_base.specs.declared.image.Program.{Program}
 use Rattle.sls_base.specs.declared.image.RegionSpec.{RegionSpec}
-use Rattle.plain_model.specs.declared.label.Label.{Label}
-use Rattle.plain_model.specs.declared.objects.Capability.{Capability}
+use Rattle.plain_state.specs.declared.label.Label.{Label}
+use Rattle.plain_state.specs.declared.objects.Capability.{Capability}
 use Rattle.plain_model.specs.Objects.{Object, Group, Space, OutputRing, InputRing, empty_slots, includes}
 use Rattle.plain_model.specs.Play.{play}
 use Rattle.plain_model.specs.Initial.{slots_with, all_rights, if_set, program_caps, program_regions, region_over, page_of_content, memory_of, program_memories, program_thread, program_objects, programs_objects, program_size, program_pages, pages_taken, group_numbers, image_objects, initial, first_world, IsApart, IsRegion, IsProgram, IsAccepted}

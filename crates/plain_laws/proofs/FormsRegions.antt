@@ -4,7 +4,7 @@ use Rattle.std.proofs.Common.{refl, ap, arith, inl, inr}
 use Rattle.std.proofs.lemmas.Bool.{ltb-true, ltb-false}
 use Rattle.std.proofs.lemmas.List.Elements.{All-nil, All-cons, All-head, All-tail, All-weaker}
 use Rattle.std.proofs.lemmas.List.Kept.{AllPairs-cons}
-use Rattle.plain_model.specs.declared.objects.Region.{Region}
+use Rattle.plain_state.specs.declared.objects.Region.{Region}
 use Rattle.plain_model.specs.Objects.{inserted}
 use Rattle.plain_laws.specs.Sound.{IsMapped, IsBefore}
 

@@ -4,7 +4,7 @@ use Rattle.std.proofs.Common.{refl, ap, sym, ◌∙◌, arith, inl, inr}
 use Rattle.std.proofs.lemmas.Bool.{cases_lt, not-true, eqb-false}
 use Rattle.sls_base.specs.declared.limits.TheConstants.{OBJECTS}
 use Rattle.sls_base.specs.declared.thread.ThreadState.{ThreadState}
-use Rattle.plain_model.specs.declared.effect.ByteStore.{ByteStore}
+use Rattle.plain_state.specs.declared.effect.ByteStore.{ByteStore}
 use Rattle.plain_model.specs.Objects.{Object, Thread}
 use Rattle.plain_model.specs.States.{State, thread_at, with_object}
 use Rattle.plain_model.specs.Memory.{memory_with, with_store, with_stores}

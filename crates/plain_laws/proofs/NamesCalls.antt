@@ -11,13 +11,13 @@ use Rattle.sls_base.specs.declared.rights.TheConstants.{ALL_RIGHTS, REGION_RIGHT
 use Rattle.sls_base.specs.declared.thread.Thread.{Thread as ThreadRecord}
 use Rattle.sls_base.specs.declared.thread.ThreadState.{ThreadState}
 use Rattle.sls_base.specs.declared.thread.ThreadState.TheVariants.{Ready, Waiting, Calling, Served}
-use Rattle.plain_model.specs.declared.objects.Capability.{Capability}
-use Rattle.plain_model.specs.declared.objects.Region.{Region}
-use Rattle.plain_model.specs.declared.objects.Kind.TheVariants.{GroupKind, SpaceKind, MemoryKind, ConnectionKind}
-use Rattle.plain_model.specs.declared.calls.TheConstants.{ANSWER}
-use Rattle.plain_model.specs.declared.calls.Refusal.TheVariants.{NoCap, BadSize, NoSlot, NoObjects}
-use Rattle.plain_model.specs.declared.calls.Call.{Call}
-use Rattle.plain_model.specs.declared.calls.Call.TheVariants.{Yield, Halt, Put, Get, MemNew, Map, Unmap, SpaceNew, GroupNew, CapCopy, CapDrop, ThreadNew, NoteNew, Signal, Wait, ConnNew, ConnCall, Serve, Checkpoint}
+use Rattle.plain_state.specs.declared.objects.Capability.{Capability}
+use Rattle.plain_state.specs.declared.objects.Region.{Region}
+use Rattle.plain_state.specs.declared.objects.Kind.TheVariants.{GroupKind, SpaceKind, MemoryKind, ConnectionKind}
+use Rattle.plain_state.specs.declared.calls.TheConstants.{ANSWER}
+use Rattle.plain_state.specs.declared.calls.Refusal.TheVariants.{NoCap, BadSize, NoSlot, NoObjects}
+use Rattle.plain_state.specs.declared.calls.Call.{Call}
+use Rattle.plain_state.specs.declared.calls.Call.TheVariants.{Yield, Halt, Put, Get, MemNew, Map, Unmap, SpaceNew, GroupNew, CapCopy, CapDrop, ThreadNew, NoteNew, Signal, Wait, ConnNew, ConnCall, Serve, Checkpoint}
 use Rattle.plain_model.specs.Objects.{Object, Group, Thread, Space, Connection, Notification, slots_of, regions_of, pages_of, is_kind, is_thread, inserted, new_memory, new_group, empty_slots}
 use Rattle.plain_model.specs.States.{State, thread_at, with_object}
 use Rattle.plain_model.specs.Worlds.{World, free_objects, free_pages}

@@ -5,10 +5,10 @@ use Rattle.std.proofs.Common.{refl, ap, sym, arith, inl, inr}
 use Rattle.std.proofs.lemmas.Bool.{cases_lt, eq-eqb, or_left, or_right}
 use Rattle.std.proofs.lemmas.List.Elements.{All-nil, All-cons, All-head, All-tail}
 use Rattle.sls_base.specs.declared.limits.TheConstants.{OBJECTS}
-use Rattle.plain_model.specs.declared.objects.Capability.{Capability}
-use Rattle.plain_model.specs.declared.objects.Region.{Region}
-use Rattle.plain_model.specs.declared.label.Label.{Label}
-use Rattle.plain_model.specs.declared.label.Label.TheVariants.{Tick, Commit, Cut, Accept, Input}
+use Rattle.plain_state.specs.declared.objects.Capability.{Capability}
+use Rattle.plain_state.specs.declared.objects.Region.{Region}
+use Rattle.plain_state.specs.declared.label.Label.{Label}
+use Rattle.plain_state.specs.declared.label.Label.TheVariants.{Tick, Commit, Cut, Accept, Input}
 use Rattle.plain_model.specs.Objects.{Object, Group, Thread, Space, Connection, Notification, is_thread}
 use Rattle.plain_model.specs.States.{State, thread_at}
 use Rattle.plain_model.specs.Worlds.{World}

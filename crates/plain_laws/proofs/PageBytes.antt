@@ -7,9 +7,9 @@ use Rattle.std.proofs.lemmas.List.{get_or_past}
 use Rattle.std.proofs.lemmas.List.Elements.{All-nil, All-cons, All-head, All-tail, All-map, All-set, All-weaker}
 use Rattle.sls_base.proofs.ListTests.{and_left, and_right}
 use Rattle.sls_base.specs.declared.limits.TheConstants.{PAGE_BYTES}
-use Rattle.plain_model.specs.declared.effect.ByteStore.{ByteStore}
-use Rattle.plain_model.specs.declared.effect.Place.{Place}
-use Rattle.plain_model.specs.declared.objects.Region.{Region}
+use Rattle.plain_state.specs.declared.effect.ByteStore.{ByteStore}
+use Rattle.plain_state.specs.declared.effect.Place.{Place}
+use Rattle.plain_state.specs.declared.objects.Region.{Region}
 use Rattle.plain_model.specs.InPages.{IsInPage}
 use Rattle.plain_model.specs.Objects.{Object, Page, Memory, pages_of, new_page, new_memory}
 use Rattle.plain_model.specs.States.{State}

@@ -5,9 +5,9 @@ use Rattle.std.proofs.lemmas.List.Elements.{All-nil, All-take}
 use Rattle.rv_core.specs.Effect.{size_of}
 use Rattle.sls_base.specs.declared.rights.TheConstants.{WRITE}
 use Rattle.sls_base.specs.declared.thread.Thread.{Thread as ThreadRecord}
-use Rattle.plain_model.specs.declared.calls.Call.{Call}
-use Rattle.plain_model.specs.declared.calls.Call.TheVariants.{Yield, Halt, Put, Get, MemNew, Map, Unmap, SpaceNew, GroupNew, CapCopy, CapDrop, ThreadNew, NoteNew, Signal, Wait, ConnNew, ConnCall, Serve, Checkpoint}
-use Rattle.plain_model.specs.declared.effect.ByteStore.{ByteStore}
+use Rattle.plain_state.specs.declared.calls.Call.{Call}
+use Rattle.plain_state.specs.declared.calls.Call.TheVariants.{Yield, Halt, Put, Get, MemNew, Map, Unmap, SpaceNew, GroupNew, CapCopy, CapDrop, ThreadNew, NoteNew, Signal, Wait, ConnNew, ConnCall, Serve, Checkpoint}
+use Rattle.plain_state.specs.declared.effect.ByteStore.{ByteStore}
 use Rattle.plain_model.specs.Objects.{Object, Memory, pages_of, page_numbers, regions_of}
 use Rattle.plain_model.specs.States.{State}
 use Rattle.plain_model.specs.Memory.{places_of, bytes_of_number}

@@ -8,7 +8,7 @@ use Rattle.sls_base.specs.declared.limits.TheConstants.{PAGE_BYTES}
 use Rattle.sls_base.specs.declared.image.Image.{Image}
 use Rattle.sls_base.specs.declared.image.Program.{Program}
 use Rattle.sls_base.specs.declared.image.RegionSpec.{RegionSpec}
-use Rattle.plain_model.specs.declared.label.Label.{Label}
+use Rattle.plain_state.specs.declared.label.Label.{Label}
 use Rattle.plain_model.specs.Objects.{Object, Thread, Connection, Notification, pages_of}
 use Rattle.plain_model.specs.States.{State, thread_at}
 use Rattle.plain_model.specs.Worlds.{World}

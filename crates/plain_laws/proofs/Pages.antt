@@ -4,8 +4,8 @@ use Rattle.std.specs.List.{list_any}
 use Rattle.std.proofs.Common.{refl, ap, sym, ◌∙◌, inl, inr}
 use Rattle.std.proofs.lemmas.Bool.{cases_eq, eq-eqb, ne_eqb}
 use Rattle.std.proofs.lemmas.Option.{get_or_from_slice_get}
-use Rattle.plain_model.specs.declared.effect.ByteStore.{ByteStore}
-use Rattle.plain_model.specs.declared.effect.Place.{Place}
+use Rattle.plain_state.specs.declared.effect.ByteStore.{ByteStore}
+use Rattle.plain_state.specs.declared.effect.Place.{Place}
 use Rattle.plain_model.specs.Objects.{Object, Thread, Memory, Page, page_numbers, pages_of, every_object}
 use Rattle.plain_model.specs.States.{thread_at}
 use Rattle.plain_model.specs.Memory.{memory_with, page_with, no_page, page_at, with_store, with_stores}

@@ -4,9 +4,9 @@ use Rattle.std.proofs.Common.{refl, ap, arith, sym, ◌∙◌, append_assoc, app
 use Rattle.std.proofs.lemmas.Bool.{ltb-true, eqb-true}
 use Rattle.sls_base.specs.declared.image.Image.{Image}
 use Rattle.plain_model.specs.Initial.{first_world}
-use Rattle.plain_model.specs.declared.effect.Output.{Output}
-use Rattle.plain_model.specs.declared.label.Label.{Label}
-use Rattle.plain_model.specs.declared.label.Label.TheVariants.{Tick, Commit, Cut, Accept, Input}
+use Rattle.plain_state.specs.declared.effect.Output.{Output}
+use Rattle.plain_state.specs.declared.label.Label.{Label}
+use Rattle.plain_state.specs.declared.label.Label.TheVariants.{Tick, Commit, Cut, Accept, Input}
 use Rattle.plain_model.specs.Worlds.{World}
 use Rattle.plain_model.specs.Effects.{Effect}
 use Rattle.plain_model.specs.Ticks.{Chosen, chosen, ticked, world_of_effect, state_of_effect, with_output, effect_for}

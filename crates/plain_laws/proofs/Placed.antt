@@ -6,7 +6,7 @@ use Rattle.std.proofs.lemmas.List.{get_or-set_same, get_or_past, set_past}
 use Rattle.std.proofs.lemmas.List.Sums.{sum_by-append}
 use Rattle.sls_base.specs.declared.thread.ThreadState.{ThreadState}
 use Rattle.sls_base.specs.declared.thread.ThreadState.TheVariants.{Ready, Running}
-use Rattle.plain_model.specs.declared.objects.Occupant.{Occupant}
+use Rattle.plain_state.specs.declared.objects.Occupant.{Occupant}
 use Rattle.plain_model.specs.States.{State}
 use Rattle.plain_laws.specs.Places.{state_of, running_on, threads_in, times, StandsIn, IsPlaced}
 

@@ -4,11 +4,11 @@ use Rattle.std.proofs.Common.{refl, ap, sym, ◌∙◌, arith, inl, inr, append-
 use Rattle.std.proofs.lemmas.Bool.{cases_eq, eqb-false}
 use Rattle.sls_base.specs.declared.thread.Thread.{Thread as ThreadRecord}
 use Rattle.sls_base.specs.declared.thread.ThreadState.{ThreadState}
-use Rattle.plain_model.specs.declared.objects.Capability.{Capability}
-use Rattle.plain_model.specs.declared.objects.Kind.TheVariants.{SpaceKind, GroupKind}
-use Rattle.plain_model.specs.declared.calls.Refusal.{Refusal}
-use Rattle.plain_model.specs.declared.calls.Refusal.TheVariants.{WrongKind, NoSlot, NoObjects}
-use Rattle.plain_model.specs.declared.calls.Call.{Call}
+use Rattle.plain_state.specs.declared.objects.Capability.{Capability}
+use Rattle.plain_state.specs.declared.objects.Kind.TheVariants.{SpaceKind, GroupKind}
+use Rattle.plain_state.specs.declared.calls.Refusal.{Refusal}
+use Rattle.plain_state.specs.declared.calls.Refusal.TheVariants.{WrongKind, NoSlot, NoObjects}
+use Rattle.plain_state.specs.declared.calls.Call.{Call}
 use Rattle.plain_model.specs.Objects.{Object, Group, Thread, is_kind}
 use Rattle.plain_model.specs.States.{State, with_object}
 use Rattle.plain_model.specs.Worlds.{World, free_objects}

@@ -5,7 +5,7 @@ use Rattle.std.proofs.lemmas.Bool.{cases_eq, eqb-true}
 use Rattle.sls_base.specs.declared.thread.Thread.{Thread as ThreadRecord}
 use Rattle.sls_base.specs.declared.thread.ThreadState.{ThreadState}
 use Rattle.sls_base.specs.declared.thread.ThreadState.TheVariants.{Ready, Calling, Served, Serving, Stopped}
-use Rattle.plain_model.specs.declared.effect.Goes.TheVariants.{Asleep}
+use Rattle.plain_state.specs.declared.effect.Goes.TheVariants.{Asleep}
 use Rattle.plain_model.specs.Objects.{Object, Thread, Connection}
 use Rattle.plain_model.specs.States.{State, thread_at, thread_of, with_object}
 use Rattle.plain_model.specs.Effects.{Effect, answers, waits}

@@ -10,8 +10,8 @@ use Rattle.sls_base.specs.declared.thread.ThreadState.TheVariants.{Ready, Runnin
 use Rattle.sls_base.specs.declared.image.Image.{Image}
 use Rattle.sls_base.specs.declared.image.Program.{Program}
 use Rattle.sls_base.specs.declared.image.RegionSpec.{RegionSpec}
-use Rattle.plain_model.specs.declared.label.Label.{Label}
-use Rattle.plain_model.specs.declared.objects.Occupant.{Occupant}
+use Rattle.plain_state.specs.declared.label.Label.{Label}
+use Rattle.plain_state.specs.declared.objects.Occupant.{Occupant}
 use Rattle.plain_model.specs.Objects.{Object, Group, Space, OutputRing, InputRing, Scheduler, is_thread}
 use Rattle.plain_model.specs.States.{State}
 use Rattle.plain_model.specs.Play.{play}

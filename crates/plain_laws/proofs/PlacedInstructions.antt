@@ -7,10 +7,10 @@ use Rattle.rv_core.specs.Effect.{with_register}
 use Rattle.sls_base.proofs.ListTests.{or_false}
 use Rattle.sls_base.specs.declared.causes.TheConstants.{ILLEGAL_WORD, NO_ACCESS}
 use Rattle.sls_base.specs.declared.thread.Thread.{Thread as ThreadRecord}
-use Rattle.plain_model.specs.declared.calls.Refusal.TheVariants.{WrongKind, NoSlot, NoObjects}
-use Rattle.plain_model.specs.declared.calls.Call.{Call}
-use Rattle.plain_model.specs.declared.calls.Call.TheVariants.{Yield, Halt, Put, Get, MemNew, Map, Unmap, SpaceNew, GroupNew, CapCopy, CapDrop, ThreadNew, NoteNew, Signal, Wait, ConnNew, ConnCall, Serve, Checkpoint}
-use Rattle.plain_model.specs.declared.objects.Kind.TheVariants.{SpaceKind, MemoryKind, GroupKind}
+use Rattle.plain_state.specs.declared.calls.Refusal.TheVariants.{WrongKind, NoSlot, NoObjects}
+use Rattle.plain_state.specs.declared.calls.Call.{Call}
+use Rattle.plain_state.specs.declared.calls.Call.TheVariants.{Yield, Halt, Put, Get, MemNew, Map, Unmap, SpaceNew, GroupNew, CapCopy, CapDrop, ThreadNew, NoteNew, Signal, Wait, ConnNew, ConnCall, Serve, Checkpoint}
+use Rattle.plain_state.specs.declared.objects.Kind.TheVariants.{SpaceKind, MemoryKind, GroupKind}
 use Rattle.plain_model.specs.Objects.{Object, Group, Space, Connection, Notification, is_kind, new_memory, new_group}
 use Rattle.plain_model.specs.Worlds.{World, free_pages}
 use Rattle.plain_model.specs.Effects.{answers, stops, goes_on}

@@ -4,9 +4,9 @@ use Rattle.std.proofs.Common.{refl, ap, ◌∙◌, arith, inl, inr}
 use Rattle.std.proofs.lemmas.Bool.{cases_eq}
 use Rattle.sls_base.specs.declared.thread.ThreadState.{ThreadState}
 use Rattle.sls_base.specs.declared.thread.ThreadState.TheVariants.{Ready, Running, Waiting, Calling, Served, Serving, Stopped}
-use Rattle.plain_model.specs.declared.objects.Occupant.{Occupant}
-use Rattle.plain_model.specs.declared.label.Label.{Label}
-use Rattle.plain_model.specs.declared.label.Label.TheVariants.{Tick, Commit, Cut, Accept, Input}
+use Rattle.plain_state.specs.declared.objects.Occupant.{Occupant}
+use Rattle.plain_state.specs.declared.label.Label.{Label}
+use Rattle.plain_state.specs.declared.label.Label.TheVariants.{Tick, Commit, Cut, Accept, Input}
 use Rattle.plain_model.specs.Objects.{Object, Thread, Connection, Notification}
 use Rattle.plain_model.specs.States.{State, thread_at}
 use Rattle.plain_model.specs.Worlds.{World}

@@ -6,8 +6,8 @@ use mathlib.Core.Path.{fun_ext}
 use Rattle.sls_base.specs.declared.thread.Thread.{Thread as ThreadRecord}
 use Rattle.sls_base.specs.declared.thread.ThreadState.{ThreadState}
 use Rattle.sls_base.specs.declared.thread.ThreadState.TheVariants.{Waiting, Calling, Served}
-use Rattle.plain_model.specs.declared.effect.ByteStore.{ByteStore}
-use Rattle.plain_model.specs.declared.effect.Place.{Place}
+use Rattle.plain_state.specs.declared.effect.ByteStore.{ByteStore}
+use Rattle.plain_state.specs.declared.effect.Place.{Place}
 use Rattle.plain_model.specs.Objects.{Object, Thread, Memory}
 use Rattle.plain_model.specs.States.{State, with_object}
 use Rattle.plain_model.specs.Memory.{memory_with, with_store, with_stores}

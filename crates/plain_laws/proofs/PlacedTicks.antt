@@ -5,9 +5,9 @@ use Rattle.sls_base.specs.declared.thread.Thread.{Thread as ThreadRecord}
 use Rattle.sls_base.specs.declared.thread.ThreadState.{ThreadState}
 use Rattle.sls_base.specs.declared.thread.ThreadState.TheVariants.{Ready, Running, Waiting, Calling, Served, Serving, Stopped}
 use Rattle.sls_base.specs.declared.limits.TheConstants.{CORE_SLICE}
-use Rattle.plain_model.specs.declared.objects.Occupant.{Occupant}
-use Rattle.plain_model.specs.declared.effect.Goes.{Goes}
-use Rattle.plain_model.specs.declared.effect.Goes.TheVariants.{On, Back, Asleep, Stop}
+use Rattle.plain_state.specs.declared.objects.Occupant.{Occupant}
+use Rattle.plain_state.specs.declared.effect.Goes.{Goes}
+use Rattle.plain_state.specs.declared.effect.Goes.TheVariants.{On, Back, Asleep, Stop}
 use Rattle.plain_model.specs.Objects.{Object, Thread}
 use Rattle.plain_model.specs.States.{State, thread_at, with_object}
 use Rattle.plain_model.specs.Memory.{with_stores}

@@ -6,7 +6,7 @@ use Rattle.sls_base.specs.declared.limits.TheConstants.{CORE_SLICE}
 use Rattle.sls_base.specs.declared.thread.Thread.{Thread as ThreadRecord}
 use Rattle.sls_base.specs.declared.thread.ThreadState.{ThreadState}
 use Rattle.sls_base.specs.declared.thread.ThreadState.TheVariants.{Ready, Waiting, Calling, Served, Serving}
-use Rattle.plain_model.specs.declared.objects.Occupant.{Occupant}
+use Rattle.plain_state.specs.declared.objects.Occupant.{Occupant}
 use Rattle.plain_model.specs.Objects.{Object, Thread, Connection}
 use Rattle.plain_model.specs.States.{State, with_object}
 use Rattle.plain_laws.specs.Places.{state_of, waiters_of, clients_of, served_of, times, StandsIn, names_place, IsPresent}

@@ -6,7 +6,7 @@ use Rattle.std.proofs.lemmas.Bool.{cases_eq}
 use Rattle.sls_base.specs.declared.thread.ThreadState.{ThreadState}
 use Rattle.sls_base.specs.declared.thread.ThreadState.TheVariants.{Ready, Serving}
 use Rattle.sls_base.specs.declared.image.Image.{Image}
-use Rattle.plain_model.specs.declared.label.Label.{Label}
+use Rattle.plain_state.specs.declared.label.Label.{Label}
 use Rattle.plain_model.specs.Objects.{Object, Thread, is_thread}
 use Rattle.plain_model.specs.Play.{play}
 use Rattle.plain_model.specs.MayStep.{MayPlay}

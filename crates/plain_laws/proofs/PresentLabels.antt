@@ -5,9 +5,9 @@ use Rattle.std.proofs.lemmas.Bool.{not-false}
 use Rattle.sls_base.specs.declared.causes.TheConstants.{LOST_OBJECT}
 use Rattle.sls_base.specs.declared.thread.ThreadState.{ThreadState}
 use Rattle.sls_base.specs.declared.thread.ThreadState.TheVariants.{Ready, Running, Waiting, Calling, Served, Serving, Stopped}
-use Rattle.plain_model.specs.declared.objects.Occupant.{Occupant}
-use Rattle.plain_model.specs.declared.label.Label.{Label}
-use Rattle.plain_model.specs.declared.label.Label.TheVariants.{Tick, Commit, Cut, Accept, Input}
+use Rattle.plain_state.specs.declared.objects.Occupant.{Occupant}
+use Rattle.plain_state.specs.declared.label.Label.{Label}
+use Rattle.plain_state.specs.declared.label.Label.TheVariants.{Tick, Commit, Cut, Accept, Input}
 use Rattle.plain_model.specs.Objects.{Connection}
 use Rattle.plain_model.specs.States.{State, thread_at}
 use Rattle.plain_model.specs.Worlds.{World}

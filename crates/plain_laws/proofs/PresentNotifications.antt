@@ -3,7 +3,7 @@ use Rattle.std.specs.Prelude.{◌≡◌, ◌≢◌, ℕ, ◌+◌, ◌-◌, ◌�
 use Rattle.std.proofs.Common.{refl, ap, sym, ◌∙◌, arith, append-nil}
 use Rattle.sls_base.specs.declared.thread.Thread.{Thread as ThreadRecord}
 use Rattle.sls_base.specs.declared.thread.ThreadState.TheVariants.{Ready, Waiting, Calling, Served}
-use Rattle.plain_model.specs.declared.calls.TheConstants.{ANSWER}
+use Rattle.plain_state.specs.declared.calls.TheConstants.{ANSWER}
 use Rattle.plain_model.specs.Objects.{Object, Notification, Thread}
 use Rattle.plain_model.specs.States.{State, thread_at, with_object}
 use Rattle.plain_model.specs.Effects.{Effect, answers, waits}

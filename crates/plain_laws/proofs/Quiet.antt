@@ -6,8 +6,8 @@ use Rattle.rv_core.specs.Effect.{size_of}
 use Rattle.sls_base.specs.declared.limits.TheConstants.{INSTRUCTION_BYTES}
 use Rattle.sls_base.specs.declared.rights.TheConstants.{READ, WRITE, EXECUTE}
 use Rattle.sls_base.specs.declared.thread.Thread.{Thread as ThreadRecord}
-use Rattle.plain_model.specs.declared.calls.Call.{Call}
-use Rattle.plain_model.specs.declared.calls.Call.TheVariants.{Put, Get, Signal, Wait, ConnCall, Serve}
+use Rattle.plain_state.specs.declared.calls.Call.{Call}
+use Rattle.plain_state.specs.declared.calls.Call.TheVariants.{Put, Get, Signal, Wait, ConnCall, Serve}
 use Rattle.plain_model.specs.Objects.{Object, Connection, Notification}
 use Rattle.plain_model.specs.States.{State, thread_at}
 use Rattle.plain_model.specs.Memory.{is_covered}

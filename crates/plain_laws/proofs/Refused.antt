@@ -9,9 +9,9 @@ use Rattle.sls_base.specs.declared.causes.TheConstants.{NO_ACCESS}
 use Rattle.sls_base.specs.declared.thread.Thread.{Thread as ThreadRecord}
 use Rattle.rv_table.specs.declared.Instr.{Instr}
 use Rattle.rv_table.specs.Decoded.{decoded}
-use Rattle.plain_model.specs.declared.calls.Refusal.{Refusal}
-use Rattle.plain_model.specs.declared.effect.Goes.{Goes}
-use Rattle.plain_model.specs.declared.effect.Goes.TheVariants.{On}
+use Rattle.plain_state.specs.declared.calls.Refusal.{Refusal}
+use Rattle.plain_state.specs.declared.effect.Goes.{Goes}
+use Rattle.plain_state.specs.declared.effect.Goes.TheVariants.{On}
 use Rattle.plain_model.specs.Objects.{Thread}
 use Rattle.plain_model.specs.Memory.{is_covered}
 use Rattle.plain_model.specs.Worlds.{World}

@@ -7,11 +7,11 @@ use Rattle.sls_base.proofs.ListTests.{or_false}
 use Rattle.sls_base.specs.declared.limits.TheConstants.{RING_ENTRIES}
 use Rattle.sls_base.specs.declared.image.Image.{Image}
 use Rattle.sls_base.specs.declared.thread.Thread.{Thread as ThreadRecord}
-use Rattle.plain_model.specs.declared.calls.Call.TheVariants.{Put}
-use Rattle.plain_model.specs.declared.calls.Refusal.TheVariants.{WrongKind, Full}
-use Rattle.plain_model.specs.declared.effect.Output.{Output}
-use Rattle.plain_model.specs.declared.label.Label.{Label}
-use Rattle.plain_model.specs.declared.objects.Kind.TheVariants.{OutputKind}
+use Rattle.plain_state.specs.declared.calls.Call.TheVariants.{Put}
+use Rattle.plain_state.specs.declared.calls.Refusal.TheVariants.{WrongKind, Full}
+use Rattle.plain_state.specs.declared.effect.Output.{Output}
+use Rattle.plain_state.specs.declared.label.Label.{Label}
+use Rattle.plain_state.specs.declared.objects.Kind.TheVariants.{OutputKind}
 use Rattle.plain_model.specs.Objects.{Object, OutputRing, is_kind}
 use Rattle.plain_model.specs.States.{State, thread_at}
 use Rattle.plain_model.specs.Worlds.{World, accepted_count, put_count}

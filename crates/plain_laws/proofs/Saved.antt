@@ -1,8 +1,8 @@
 -- The saved copy is swept, and what it has is there still: each label keeps that.
 use Rattle.std.specs.Prelude.{◌≡◌, ◌≢◌, ℕ, ◌-◌, ◌==◌, List, [], ◌∷◌, Option, Some, None}
 use Rattle.sls_base.specs.declared.image.Image.{Image}
-use Rattle.plain_model.specs.declared.effect.ByteStore.{ByteStore}
-use Rattle.plain_model.specs.declared.label.Label.{Label}
+use Rattle.plain_state.specs.declared.effect.ByteStore.{ByteStore}
+use Rattle.plain_state.specs.declared.label.Label.{Label}
 use Rattle.plain_model.specs.Objects.{Object, Thread}
 use Rattle.plain_model.specs.States.{thread_at, with_object}
 use Rattle.plain_model.specs.Memory.{with_store, with_stores}

@@ -16,8 +16,8 @@ use Rattle.sls_base.specs.declared.thread.ThreadState.{ThreadState}
 use Rattle.sls_base.specs.declared.thread.ThreadState.TheVariants.{Ready}
 use Rattle.sls_base.specs.declared.image.Image.{Image}
 use Rattle.sls_base.specs.declared.image.Program.{Program}
-use Rattle.plain_model.specs.declared.objects.Capability.{Capability}
-use Rattle.plain_model.specs.declared.objects.Occupant.{Occupant}
+use Rattle.plain_state.specs.declared.objects.Capability.{Capability}
+use Rattle.plain_state.specs.declared.objects.Occupant.{Occupant}
 use Rattle.plain_model.specs.Objects.{Object, Group, Thread, Connection, Notification, empty_slots, is_thread}
 use Rattle.plain_model.specs.States.{State}
 use Rattle.plain_model.specs.Initial.{slots_with, all_rights, if_set, program_caps, programs_objects, program_size, program_pages, group_numbers, root_group, image_objects, initial, first_world, IsProgram, IsAccepted}

@@ -11,12 +11,12 @@ use Rattle.sls_base.specs.declared.limits.TheConstants.{PAGE_BYTES, OBJECTS, OUT
 use Rattle.sls_base.specs.declared.fixed.TheConstants.{FIRST_OUTPUT_RING}
 use Rattle.sls_base.specs.declared.rights.TheConstants.{WRITE}
 use Rattle.sls_base.specs.declared.thread.Thread.{Thread as ThreadRecord}
-use Rattle.plain_model.specs.declared.objects.Region.{Region}
-use Rattle.plain_model.specs.declared.objects.Kind.TheVariants.{OutputKind}
-use Rattle.plain_model.specs.declared.calls.Call.TheVariants.{Put}
-use Rattle.plain_model.specs.declared.effect.ByteStore.{ByteStore}
-use Rattle.plain_model.specs.declared.effect.Output.{Output}
-use Rattle.plain_model.specs.declared.effect.Place.{Place}
+use Rattle.plain_state.specs.declared.objects.Region.{Region}
+use Rattle.plain_state.specs.declared.objects.Kind.TheVariants.{OutputKind}
+use Rattle.plain_state.specs.declared.calls.Call.TheVariants.{Put}
+use Rattle.plain_state.specs.declared.effect.ByteStore.{ByteStore}
+use Rattle.plain_state.specs.declared.effect.Output.{Output}
+use Rattle.plain_state.specs.declared.effect.Place.{Place}
 use Rattle.plain_model.specs.Objects.{Object, Memory, OutputRing, Page, pages_of, page_numbers, includes, is_kind, every_object}
 use Rattle.plain_model.specs.States.{State}
 use Rattle.plain_model.specs.Memory.{covers, place_in, place_of, page_at, no_page, stores_at}

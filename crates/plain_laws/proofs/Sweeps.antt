@@ -4,7 +4,7 @@ use Rattle.std.proofs.Common.{refl, ap, arith, sym, ◌∙◌}
 use mathlib.Core.Path.{fun_ext}
 use Rattle.sls_base.specs.declared.limits.TheConstants.{OBJECTS}
 use Rattle.sls_base.specs.declared.thread.ThreadState.{ThreadState}
-use Rattle.plain_model.specs.declared.objects.Occupant.{Occupant}
+use Rattle.plain_state.specs.declared.objects.Occupant.{Occupant}
 use Rattle.plain_model.specs.Objects.{Object, Group, Thread, Space, Memory, Connection, Notification, OutputRing, InputRing, Scheduler, every_object}
 use Rattle.plain_model.specs.States.{State}
 use Rattle.plain_model.specs.Sweep.{leads_to, is_within, is_reached, swept, settled, settled_state, waits_for, is_lost, kept, kept_on_core, thread_on}

@@ -7,10 +7,10 @@ use Rattle.sls_base.specs.declared.limits.TheConstants.{GROUP_SLOTS, INSTRUCTION
 use Rattle.sls_base.specs.declared.thread.Thread.{Thread as ThreadRecord}
 use Rattle.sls_base.specs.declared.thread.ThreadState.{ThreadState}
 use Rattle.sls_base.specs.declared.thread.ThreadState.TheVariants.{Ready, Waiting, Calling, Served, Serving}
-use Rattle.plain_model.specs.declared.calls.TheConstants.{ANSWER}
-use Rattle.plain_model.specs.declared.calls.Call.{Call}
-use Rattle.plain_model.specs.declared.calls.Call.TheVariants.{Yield, Halt, Put, Get, MemNew, Map, Unmap, SpaceNew, GroupNew, CapCopy, CapDrop, ThreadNew, NoteNew, Signal, Wait, ConnNew, ConnCall, Serve, Checkpoint}
-use Rattle.plain_model.specs.declared.calls.Refusal.TheVariants.{BadAddress}
+use Rattle.plain_state.specs.declared.calls.TheConstants.{ANSWER}
+use Rattle.plain_state.specs.declared.calls.Call.{Call}
+use Rattle.plain_state.specs.declared.calls.Call.TheVariants.{Yield, Halt, Put, Get, MemNew, Map, Unmap, SpaceNew, GroupNew, CapCopy, CapDrop, ThreadNew, NoteNew, Signal, Wait, ConnNew, ConnCall, Serve, Checkpoint}
+use Rattle.plain_state.specs.declared.calls.Refusal.TheVariants.{BadAddress}
 use Rattle.plain_model.specs.Objects.{Object, Group, Thread, Connection, Notification, slots_of}
 use Rattle.plain_model.specs.States.{State, thread_at, zero_registers}
 use Rattle.plain_model.specs.Worlds.{World}

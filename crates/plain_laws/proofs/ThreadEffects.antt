@@ -6,9 +6,9 @@ use Rattle.sls_base.specs.declared.causes.TheConstants.{LOST_OBJECT}
 use Rattle.sls_base.specs.declared.thread.Thread.{Thread as ThreadRecord}
 use Rattle.sls_base.specs.declared.thread.ThreadState.{ThreadState}
 use Rattle.sls_base.specs.declared.thread.ThreadState.TheVariants.{Running, Stopped}
-use Rattle.plain_model.specs.declared.effect.Goes.{Goes}
-use Rattle.plain_model.specs.declared.effect.Goes.TheVariants.{On, Back, Asleep, Stop}
-use Rattle.plain_model.specs.declared.effect.Place.{Place}
+use Rattle.plain_state.specs.declared.effect.Goes.{Goes}
+use Rattle.plain_state.specs.declared.effect.Goes.TheVariants.{On, Back, Asleep, Stop}
+use Rattle.plain_state.specs.declared.effect.Place.{Place}
 use Rattle.plain_model.specs.Objects.{Object, Thread, Memory}
 use Rattle.plain_model.specs.States.{State, thread_of, thread_at, no_thread}
 use Rattle.plain_model.specs.Memory.{memory_with}

@@ -12,8 +12,8 @@ use Rattle.rv_core.specs.Ranges.{AreRegs, IsPlan, GoesAligned}
 use Rattle.sls_base.specs.declared.causes.TheConstants.{LOST_OBJECT, ILLEGAL_WORD, NO_ACCESS}
 use Rattle.sls_base.specs.declared.rights.TheConstants.{READ}
 use Rattle.sls_base.specs.declared.thread.Thread.{Thread as ThreadRecord}
-use Rattle.plain_model.specs.declared.calls.Refusal.{Refusal}
-use Rattle.plain_model.specs.declared.calls.Refusal.TheVariants.{BadCall}
+use Rattle.plain_state.specs.declared.calls.Refusal.{Refusal}
+use Rattle.plain_state.specs.declared.calls.Refusal.TheVariants.{BadCall}
 use Rattle.plain_model.specs.States.{State}
 use Rattle.plain_model.specs.Memory.{places_of, is_covered}
 use Rattle.plain_model.specs.Worlds.{World}

@@ -7,7 +7,7 @@ use Rattle.sls_base.specs.declared.image.Image.{Image}
 use Rattle.sls_base.specs.declared.image.Program.{Program}
 use Rattle.sls_base.specs.declared.thread.ThreadState.{ThreadState}
 use Rattle.sls_base.specs.declared.thread.ThreadState.TheVariants.{Stopped}
-use Rattle.plain_model.specs.declared.label.Label.{Label}
+use Rattle.plain_state.specs.declared.label.Label.{Label}
 use Rattle.plain_model.specs.Objects.{Object, Thread}
 use Rattle.plain_model.specs.States.{State, thread_at, zero_registers}
 use Rattle.plain_model.specs.Worlds.{World}

@@ -12,9 +12,9 @@ use Rattle.rv_core.specs.Effect.{size_of, extended, with_register}
 use Rattle.rv_core.specs.Ranges.{AreRegs}
 use Rattle.sls_base.specs.declared.limits.TheConstants.{GROUP_SLOTS, INSTRUCTION_BYTES, REGISTERS}
 use Rattle.sls_base.specs.declared.thread.Thread.{Thread as ThreadRecord}
-use Rattle.plain_model.specs.declared.calls.TheConstants.{ANSWER}
-use Rattle.plain_model.specs.declared.effect.Place.{Place}
-use Rattle.plain_model.specs.declared.objects.Capability.{Capability}
+use Rattle.plain_state.specs.declared.calls.TheConstants.{ANSWER}
+use Rattle.plain_state.specs.declared.effect.Place.{Place}
+use Rattle.plain_state.specs.declared.objects.Capability.{Capability}
 use Rattle.plain_model.specs.States.{State, zero_registers}
 use Rattle.plain_model.specs.Memory.{byte_at, number_of_bytes}
 use Rattle.plain_model.specs.Effects.{next_pc}

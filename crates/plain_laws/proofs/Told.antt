@@ -6,7 +6,7 @@ use Rattle.std.proofs.lemmas.Bool.{not-true, not-false}
 use Rattle.sls_base.specs.declared.thread.ThreadState.{ThreadState}
 use Rattle.sls_base.specs.declared.thread.ThreadState.TheVariants.{Stopped}
 use Rattle.sls_base.specs.declared.causes.TheConstants.{LOST_OBJECT}
-use Rattle.plain_model.specs.declared.objects.Occupant.{Occupant}
+use Rattle.plain_state.specs.declared.objects.Occupant.{Occupant}
 use Rattle.plain_model.specs.Objects.{Object, Group, Thread, Space, Memory, Connection, Notification, OutputRing, InputRing, Scheduler}
 use Rattle.plain_model.specs.States.{State}
 use Rattle.plain_model.specs.Sweep.{is_reached, swept, settled, settled_state, waits_for, is_lost, kept, kept_on_core, thread_on, loses_any, is_settled_otherwise, is_swept_otherwise}

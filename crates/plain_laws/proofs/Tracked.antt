@@ -6,8 +6,8 @@ use Rattle.std.proofs.lemmas.Bool.{eqb-true, eqb-false, ne_eqb}
 use Rattle.sls_base.specs.declared.limits.TheConstants.{OBJECTS}
 use Rattle.sls_base.specs.declared.fixed.TheConstants.{SCHEDULER, FIRST_OUTPUT_RING}
 use Rattle.sls_base.specs.declared.image.Image.{Image}
-use Rattle.plain_model.specs.declared.effect.Output.{Output}
-use Rattle.plain_model.specs.declared.label.Label.{Label}
+use Rattle.plain_state.specs.declared.effect.Output.{Output}
+use Rattle.plain_state.specs.declared.label.Label.{Label}
 use Rattle.plain_model.specs.Objects.{Page}
 use Rattle.plain_model.specs.States.{thread_at}
 use Rattle.plain_model.specs.Memory.{page_at}

@@ -6,9 +6,9 @@ use Rattle.rv_core.specs.declared.registers.Plan.TheVariants.{Store}
 use Rattle.rv_core.specs.Effect.{size_of}
 use Rattle.sls_base.specs.declared.rights.TheConstants.{WRITE}
 use Rattle.sls_base.specs.declared.thread.Thread.{Thread as ThreadRecord}
-use Rattle.plain_model.specs.declared.calls.Call.{Call}
-use Rattle.plain_model.specs.declared.calls.Call.TheVariants.{Put, Get, Signal, Wait, ConnCall, Serve}
-use Rattle.plain_model.specs.declared.effect.Place.{Place}
+use Rattle.plain_state.specs.declared.calls.Call.{Call}
+use Rattle.plain_state.specs.declared.calls.Call.TheVariants.{Put, Get, Signal, Wait, ConnCall, Serve}
+use Rattle.plain_state.specs.declared.effect.Place.{Place}
 use Rattle.plain_model.specs.Objects.{Object, Connection, Notification}
 use Rattle.plain_model.specs.States.{State, thread_at}
 use Rattle.plain_model.specs.Memory.{is_covered}

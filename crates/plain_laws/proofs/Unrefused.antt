@@ -3,9 +3,9 @@ use Rattle.std.specs.Prelude.{◌≡◌, ◌≢◌, ◌-◌, ℕ, false, Some, N
 use Rattle.std.specs.List.{list_any}
 use Rattle.std.proofs.Common.{refl}
 use Rattle.sls_base.specs.declared.thread.Thread.{Thread}
-use Rattle.plain_model.specs.declared.calls.Call.{Call}
-use Rattle.plain_model.specs.declared.calls.Refusal.{Refusal}
-use Rattle.plain_model.specs.declared.calls.Refusal.TheVariants.{BadCall, NoCap, WrongKind, NoRight, BadAddress, BadSize, Overlap, NoSlot, NoObjects, NoPages, NoRegions, Full, Empty, Taken}
+use Rattle.plain_state.specs.declared.calls.Call.{Call}
+use Rattle.plain_state.specs.declared.calls.Refusal.{Refusal}
+use Rattle.plain_state.specs.declared.calls.Refusal.TheVariants.{BadCall, NoCap, WrongKind, NoRight, BadAddress, BadSize, Overlap, NoSlot, NoObjects, NoPages, NoRegions, Full, Empty, Taken}
 use Rattle.plain_model.specs.Worlds.{World}
 use Rattle.plain_model.specs.Calls.{needs}
 use Rattle.plain_model.specs.Refusals.{refusal_order, refusal_rank}

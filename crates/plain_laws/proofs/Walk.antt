@@ -11,11 +11,11 @@ use Rattle.sls_base.specs.declared.limits.TheConstants.{INSTRUCTION_BYTES}
 use Rattle.sls_base.specs.declared.rights.TheConstants.{READ, WRITE, EXECUTE}
 use Rattle.sls_base.specs.declared.causes.TheConstants.{NO_ACCESS, ILLEGAL_WORD}
 use Rattle.sls_base.specs.declared.thread.Thread.{Thread as ThreadRecord}
-use Rattle.plain_model.specs.declared.calls.Call.{Call}
-use Rattle.plain_model.specs.declared.calls.Refusal.{Refusal}
-use Rattle.plain_model.specs.declared.calls.Refusal.TheVariants.{BadCall}
-use Rattle.plain_model.specs.declared.label.Label.{Label}
-use Rattle.plain_model.specs.declared.label.Label.TheVariants.{Tick, Commit, Cut, Accept, Input}
+use Rattle.plain_state.specs.declared.calls.Call.{Call}
+use Rattle.plain_state.specs.declared.calls.Refusal.{Refusal}
+use Rattle.plain_state.specs.declared.calls.Refusal.TheVariants.{BadCall}
+use Rattle.plain_state.specs.declared.label.Label.{Label}
+use Rattle.plain_state.specs.declared.label.Label.TheVariants.{Tick, Commit, Cut, Accept, Input}
 use Rattle.plain_model.specs.Memory.{is_covered, places_of, stores_at, bytes_of_number}
 use Rattle.plain_model.specs.Worlds.{World}
 use Rattle.plain_model.specs.Effects.{Effect, goes_on, stops, answers, regs_of, next_pc}

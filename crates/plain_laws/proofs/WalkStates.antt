@@ -2,9 +2,9 @@
 use Rattle.std.specs.Prelude.{◌≡◌, ℕ, ◌-◌, ◌==◌, Bool, true, false, if◌then◌else◌, List, [], ◌∷◌, ◌++◌, All, Option, Some}
 use Rattle.std.proofs.lemmas.List.Elements.{All-head, All-tail}
 use Rattle.arrayvec.specs.ArrayVec.{ArrayVec}
-use Rattle.plain_model.specs.declared.effect.ByteStore.{ByteStore}
-use Rattle.plain_model.specs.declared.label.Label.{Label}
-use Rattle.plain_model.specs.declared.label.Label.TheVariants.{Tick, Input}
+use Rattle.plain_state.specs.declared.effect.ByteStore.{ByteStore}
+use Rattle.plain_state.specs.declared.label.Label.{Label}
+use Rattle.plain_state.specs.declared.label.Label.TheVariants.{Tick, Input}
 use Rattle.plain_model.specs.Objects.{Object, Thread}
 use Rattle.plain_model.specs.States.{State, thread_at, with_object}
 use Rattle.plain_model.specs.Memory.{memory_with, with_store, with_stores}

@@ -8,8 +8,8 @@ use Rattle.sls_base.specs.declared.image.RegionSpec.{RegionSpec}
 use Rattle.sls_base.specs.declared.thread.Thread.{Thread as ThreadRecord}
 use Rattle.sls_base.specs.declared.thread.ThreadState.{ThreadState}
 use Rattle.sls_base.specs.declared.thread.ThreadState.TheVariants.{Running, Stopped}
-use Rattle.plain_model.specs.declared.label.Label.{Label}
-use Rattle.plain_model.specs.declared.label.Label.TheVariants.{Input}
+use Rattle.plain_state.specs.declared.label.Label.{Label}
+use Rattle.plain_state.specs.declared.label.Label.TheVariants.{Input}
 use Rattle.plain_model.specs.Objects.{Page, Thread, pages_of}
 use Rattle.plain_model.specs.States.{State}
 use Rattle.plain_model.specs.Worlds.{World, accepted_count}

@@ -2,7 +2,7 @@
 use Rattle.std.specs.Prelude.{◌≡◌, ℕ, ◌+◌, ◌<◌, ◌≤◌, Bool, true, false, [], ◌∷◌, Option, Some}
 use Rattle.sls_base.specs.declared.limits.TheConstants.{OUTPUT_CHANNELS}
 use Rattle.sls_base.specs.declared.fixed.TheConstants.{ROOT_GROUP, SCHEDULER, FIRST_OUTPUT_RING, INPUT_RING, FIRST_PROGRAM_OBJECT}
-use Rattle.plain_model.specs.declared.objects.Kind.TheVariants.{GroupKind}
+use Rattle.plain_state.specs.declared.objects.Kind.TheVariants.{GroupKind}
 use Rattle.plain_model.specs.Objects.{Object, OutputRing, InputRing, Scheduler, is_kind, page_numbers}
 use Rattle.plain_model.specs.States.{State}
 

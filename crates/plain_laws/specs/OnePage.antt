@@ -1,7 +1,7 @@
 -- Bytes that stand on one page.
 use Rattle.std.specs.Prelude.{ℕ, ◌+◌}
-use Rattle.plain_model.specs.declared.objects.Region.{Region}
-use Rattle.plain_model.specs.declared.effect.Place.{Place}
+use Rattle.plain_state.specs.declared.objects.Region.{Region}
+use Rattle.plain_state.specs.declared.effect.Place.{Place}
 use Rattle.plain_model.specs.Memory.{place_in}
 
 -- where the byte stands that is so many behind the one at an address, on the same page of a region

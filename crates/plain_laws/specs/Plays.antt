@@ -1,6 +1,6 @@
 -- What is so of each world that a machine comes to.
 use Rattle.std.specs.Prelude.{List}
-use Rattle.plain_model.specs.declared.label.Label.{Label}
+use Rattle.plain_state.specs.declared.label.Label.{Label}
 use Rattle.plain_model.specs.States.{State}
 use Rattle.plain_model.specs.Worlds.{World}
 use Rattle.plain_model.specs.Play.{play}

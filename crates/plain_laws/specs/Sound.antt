@@ -3,9 +3,9 @@
 use Rattle.std.specs.Prelude.{◌≡◌, ◌≢◌, ℕ, ◌+◌, ◌^◌, ◌<◌, ◌≤◌, true, length, All, AllPairs, Contains, Option, Some, None}
 use Rattle.sls_base.specs.declared.limits.TheConstants.{GROUP_SLOTS, SPACE_REGIONS, MEMORY_PAGES, ADDRESS_PAGES, OUTPUT_CHANNELS, PAGES}
 use Rattle.sls_base.specs.declared.rights.TheConstants.{ALL_RIGHTS, REGION_RIGHTS}
-use Rattle.plain_model.specs.declared.objects.Capability.{Capability}
-use Rattle.plain_model.specs.declared.objects.Region.{Region}
-use Rattle.plain_model.specs.declared.objects.Kind.TheVariants.{GroupKind, SpaceKind, MemoryKind}
+use Rattle.plain_state.specs.declared.objects.Capability.{Capability}
+use Rattle.plain_state.specs.declared.objects.Region.{Region}
+use Rattle.plain_state.specs.declared.objects.Kind.TheVariants.{GroupKind, SpaceKind, MemoryKind}
 use Rattle.plain_model.specs.Objects.{Object, Group, Thread, Space, Memory, Connection, Notification, OutputRing, pages_of, page_numbers, is_kind, is_thread}
 use Rattle.plain_model.specs.States.{State}
 

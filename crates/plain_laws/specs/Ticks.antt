@@ -6,12 +6,12 @@ use Rattle.sls_base.specs.declared.fixed.TheConstants.{SCHEDULER}
 use Rattle.sls_base.specs.declared.limits.TheConstants.{INSTRUCTION_BYTES}
 use Rattle.sls_base.specs.declared.rights.TheConstants.{EXECUTE}
 use Rattle.sls_base.specs.declared.thread.Thread.{Thread as ThreadRecord}
-use Rattle.plain_model.specs.declared.calls.TheConstants.{ANSWER}
-use Rattle.plain_model.specs.declared.calls.Call.{Call}
-use Rattle.plain_model.specs.declared.calls.Refusal.{Refusal}
-use Rattle.plain_model.specs.declared.calls.Refusal.TheVariants.{BadCall}
-use Rattle.plain_model.specs.declared.effect.Goes.{Goes}
-use Rattle.plain_model.specs.declared.effect.Goes.TheVariants.{On}
+use Rattle.plain_state.specs.declared.calls.TheConstants.{ANSWER}
+use Rattle.plain_state.specs.declared.calls.Call.{Call}
+use Rattle.plain_state.specs.declared.calls.Refusal.{Refusal}
+use Rattle.plain_state.specs.declared.calls.Refusal.TheVariants.{BadCall}
+use Rattle.plain_state.specs.declared.effect.Goes.{Goes}
+use Rattle.plain_state.specs.declared.effect.Goes.TheVariants.{On}
 use Rattle.plain_model.specs.Objects.{Page, Thread}
 use Rattle.plain_model.specs.States.{State, thread_at}
 use Rattle.plain_model.specs.Memory.{is_covered}

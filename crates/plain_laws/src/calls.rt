@@ -4,9 +4,9 @@ ghost use Rattle.std.specs.Prelude.{◌≡◌, ◌≢◌, ℕ, ◌+◌, ◌%◌,
 ghost use Rattle.std.specs.List.{list_any, range_with_len};
 ghost use Rattle.sls_base.specs.declared.limits.TheConstants.{PAGE_BYTES};
 ghost use Rattle.sls_base.specs.declared.thread.Thread.{Thread};
-ghost use Rattle.plain_model.specs.declared.calls.Call.{Call};
-ghost use Rattle.plain_model.specs.declared.calls.Refusal.{Refusal};
-ghost use Rattle.plain_model.specs.declared.objects.Region.{Region};
+ghost use Rattle.plain_state.specs.declared.calls.Call.{Call};
+ghost use Rattle.plain_state.specs.declared.calls.Refusal.{Refusal};
+ghost use Rattle.plain_state.specs.declared.objects.Region.{Region};
 ghost use Rattle.plain_model.specs.Worlds.{World};
 ghost use Rattle.plain_model.specs.Calls.{needs};
 ghost use Rattle.plain_model.specs.CallRefusals.{is_unmet, is_refused_besides, refusal_of};

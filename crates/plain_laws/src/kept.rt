@@ -2,7 +2,7 @@
 
 ghost use Rattle.std.specs.Prelude.{ℕ};
 ghost use Rattle.sls_base.specs.declared.image.Image.{Image};
-ghost use Rattle.plain_model.specs.declared.label.Label.{Label};
+ghost use Rattle.plain_state.specs.declared.label.Label.{Label};
 ghost use Rattle.plain_model.specs.Worlds.{World};
 ghost use Rattle.plain_model.specs.Play.{after};
 ghost use Rattle.plain_model.specs.Initial.{IsAccepted, first_world};

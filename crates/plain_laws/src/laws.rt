@@ -5,7 +5,7 @@ ghost use Rattle.std.specs.Prelude.{◌≡◌, ◌↔◌, ℕ, ◌+◌, ◌*◌,
 ghost use Rattle.sls_base.specs.declared.limits.TheConstants.{OBJECTS, PAGES};
 ghost use Rattle.sls_base.specs.declared.image.Image.{Image};
 ghost use Rattle.sls_base.specs.declared.thread.ThreadState.{ThreadState};
-ghost use Rattle.plain_model.specs.declared.label.Label.{Label};
+ghost use Rattle.plain_state.specs.declared.label.Label.{Label};
 ghost use Rattle.plain_model.specs.States.{State};
 ghost use Rattle.plain_model.specs.Worlds.{World, free_objects};
 ghost use Rattle.plain_model.specs.CallEffects.{new_id};

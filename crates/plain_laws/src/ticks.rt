@@ -2,9 +2,9 @@
 
 ghost use Rattle.std.specs.Prelude.{◌≡◌, ◌↔◌, ℕ, ◌<◌, Some, None, slice_index};
 ghost use Rattle.sls_base.specs.declared.thread.Thread.{Thread};
-ghost use Rattle.plain_model.specs.declared.calls.TheConstants.{CALL_NUMBER};
-ghost use Rattle.plain_model.specs.declared.calls.Call.{Call};
-ghost use Rattle.plain_model.specs.declared.calls.Refusal.{Refusal};
+ghost use Rattle.plain_state.specs.declared.calls.TheConstants.{CALL_NUMBER};
+ghost use Rattle.plain_state.specs.declared.calls.Call.{Call};
+ghost use Rattle.plain_state.specs.declared.calls.Refusal.{Refusal};
 ghost use Rattle.plain_model.specs.Worlds.{World};
 ghost use Rattle.plain_model.specs.Effects.{answers};
 ghost use Rattle.plain_model.specs.Calls.{call_named};

@@ -4,13 +4,13 @@ use Rattle.std.specs.Prelude.{filter, option_map}
 use Rattle.std.specs.List.{list_any}
 use Rattle.std.proofs.lemmas.List.Sums.{length-filter, count_by-le-length}
 use Rattle.std.proofs.lemmas.List.FromFn.{length-range_with_len}
-use Rattle.plain_model.specs.Objects.{Object, Group, Thread, Space, Memory, Connection, Notification, OutputRing, InputRing, Scheduler, page_numbers, every_object, every_page}
-use Rattle.plain_model.specs.States.{State}
-use Rattle.plain_model.specs.Sweep.{is_reached, settled, swept}
-use Rattle.plain_model.specs.Worlds.{has_page}
-use Rattle.plain_model.specs.declared.sweep.Reached.{Reached}
-use Rattle.plain_model.specs.SlowSweep.{has, TellsReached}
-use Rattle.plain_model.proofs.SlowSweepSteps.{any_object_alike}
+use Rattle.plain_state.specs.Objects.{Object, Group, Thread, Space, Memory, Connection, Notification, OutputRing, InputRing, Scheduler, page_numbers, every_object, every_page}
+use Rattle.plain_state.specs.States.{State}
+use Rattle.plain_state.specs.Sweep.{is_reached, settled, swept}
+use Rattle.plain_state.specs.Worlds.{has_page}
+use Rattle.plain_state.specs.declared.sweep.Reached.{Reached}
+use Rattle.plain_state.specs.SlowSweep.{has, TellsReached}
+use Rattle.plain_state.proofs.SlowSweepSteps.{any_object_alike}
 
 -- whether one of an object's pages has a number
 abbrev pub has_number : ℕ → Option Object → Bool

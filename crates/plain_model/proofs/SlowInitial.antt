@@ -7,21 +7,21 @@ use Rattle.std.proofs.lemmas.List.Elements.{filter-append}
 use Rattle.std.proofs.lemmas.List.{map_push, get_or_past, get_or-take, get_or-drop, length-take, append-nil, length-map, length-append, at_drop_more}
 use mathlib.Core.Path.{fun_ext}
 use Rattle.sls_base.specs.declared.limits.TheConstants.{GROUP_SLOTS}
-use Rattle.plain_model.specs.declared.objects.Capability.{Capability}
-use Rattle.plain_model.specs.declared.object.Object.{Object as SlowObject}
-use Rattle.plain_model.specs.declared.objects.Occupant.{Occupant}
-use Rattle.plain_model.specs.States.{State}
-use Rattle.plain_model.specs.Objects.{Object, empty_slots, is_thread}
-use Rattle.plain_model.specs.Slow.{object_of, slot_of, objects_of, entries_of, inputs_of}
+use Rattle.plain_state.specs.declared.objects.Capability.{Capability}
+use Rattle.plain_state.specs.declared.object.Object.{Object as SlowObject}
+use Rattle.plain_state.specs.declared.objects.Occupant.{Occupant}
+use Rattle.plain_state.specs.States.{State}
+use Rattle.plain_state.specs.Objects.{Object, empty_slots, is_thread}
+use Rattle.plain_state.specs.Slow.{object_of, slot_of, objects_of, entries_of, inputs_of}
 use Rattle.plain_model.specs.SlowWorld.{is_in}
-use Rattle.plain_model.specs.declared.effect.Output.{Output}
-use Rattle.plain_model.specs.declared.state.Waiting.{Waiting}
-use Rattle.plain_model.specs.Worlds.{World}
+use Rattle.plain_state.specs.declared.effect.Output.{Output}
+use Rattle.plain_state.specs.declared.state.Waiting.{Waiting}
+use Rattle.plain_state.specs.Worlds.{World}
 use Rattle.sls_base.specs.declared.image.Program.{Program}
 use Rattle.sls_base.specs.declared.image.RegionSpec.{RegionSpec}
 use Rattle.plain_model.specs.Initial.{slots_with, program_size, pages_taken, program_pages, program_memories, program_thread, program_objects, programs_objects, thread_numbers}
-use Rattle.plain_model.proofs.SlowLists.{page_with_bytes}
-use Rattle.plain_model.proofs.SlowMemory.{range_more}
+use Rattle.plain_state.proofs.SlowLists.{page_with_bytes}
+use Rattle.plain_state.proofs.SlowMemory.{range_more}
 
 -- Empty slots.
 

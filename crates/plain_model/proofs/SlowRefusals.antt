@@ -5,13 +5,13 @@ use Rattle.std.proofs.Common.{refl, cond, arith, rules, tests}
 use Rattle.sls_base.proofs.ListTests.{or_false}
 use Rattle.sls_base.specs.declared.limits.TheConstants.{ENTRY_BYTES}
 use Rattle.sls_base.specs.declared.thread.Thread.{Thread as ThreadRecord}
-use Rattle.plain_model.specs.declared.calls.Call.{Call}
-use Rattle.plain_model.specs.declared.calls.Call.TheVariants.{Put, Signal}
-use Rattle.plain_model.specs.declared.calls.Refusal.TheVariants.{NoCap}
-use Rattle.plain_model.specs.Worlds.{World}
-use Rattle.plain_model.specs.Calls.{arg, named, needs}
-use Rattle.plain_model.specs.Refusals.{refusal_order}
-use Rattle.plain_model.specs.CallRefusals.{is_unmet, is_refused_besides, is_refused_by, is_full_count, refusal_of}
+use Rattle.plain_state.specs.declared.calls.Call.{Call}
+use Rattle.plain_state.specs.declared.calls.Call.TheVariants.{Put, Signal}
+use Rattle.plain_state.specs.declared.calls.Refusal.TheVariants.{NoCap}
+use Rattle.plain_state.specs.Worlds.{World}
+use Rattle.plain_state.specs.Calls.{arg, named, needs}
+use Rattle.plain_state.specs.Refusals.{refusal_order}
+use Rattle.plain_state.specs.CallRefusals.{is_unmet, is_refused_besides, is_refused_by, is_full_count, refusal_of}
 
 not_first : {X : Type 0} (b : Bool) (x : X) (rest : Option X) → cond b (Some x) rest ≡ None → (b ≡ false) × (rest ≡ None)
 not_first true x rest e = absurd (cc)

@@ -2,23 +2,23 @@
 use Rattle.std.specs.Prelude.{◌≡◌, ℕ, zero, suc, nat_lt, ◌+◌, ◌<◌, ◌==◌, ◌||◌, Bool, true, false, List, [], ◌∷◌, ◌++◌, length, map, take, filter, find, slice_index_or, slice_get, if◌then◌else◌, Option, Some, None, option_map}
 use Rattle.std.specs.List.{list_any, range_with_len}
 use Rattle.std.proofs.Common.{refl, ap, sym, arith, ◌∙◌, add-one}
-use Rattle.plain_model.proofs.SlowMemory.{range_more}
+use Rattle.plain_state.proofs.SlowMemory.{range_more}
 use Rattle.std.proofs.lemmas.List.{map-append}
 use Rattle.std.proofs.lemmas.List.Elements.{filter-append}
 use Rattle.std.proofs.lemmas.Bool.Decides.{nat_tests}
 use Rattle.std.proofs.Math.Bool.{or_assoc}
 use Rattle.std.proofs.lemmas.Bool.{eqb-true}
 use Rattle.std.proofs.lemmas.List.Folds.{list_any-append, list_any_more}
-use Rattle.plain_model.specs.declared.effect.ByteStore.{ByteStore}
-use Rattle.plain_model.specs.declared.slow_effect.Change.{Change as SlowChange}
-use Rattle.plain_model.specs.declared.effect.Output.{Output}
-use Rattle.plain_model.specs.declared.label.Reply.TheVariants.{Took}
-use Rattle.plain_model.specs.declared.label.Label.TheVariants.{Accept}
+use Rattle.plain_state.specs.declared.effect.ByteStore.{ByteStore}
+use Rattle.plain_state.specs.declared.slow_effect.Change.{Change as SlowChange}
+use Rattle.plain_state.specs.declared.effect.Output.{Output}
+use Rattle.plain_state.specs.declared.label.Reply.TheVariants.{Took}
+use Rattle.plain_state.specs.declared.label.Label.TheVariants.{Accept}
 use Rattle.plain_model.specs.Play.{accept, reply, with_released}
-use Rattle.plain_model.specs.Slow.{change_of, entries_of}
-use Rattle.plain_model.specs.Effects.{Change}
-use Rattle.plain_model.specs.States.{State}
-use Rattle.plain_model.specs.Worlds.{World, accepted_count}
+use Rattle.plain_state.specs.Slow.{change_of, entries_of}
+use Rattle.plain_state.specs.Effects.{Change}
+use Rattle.plain_state.specs.States.{State}
+use Rattle.plain_state.specs.Worlds.{World, accepted_count}
 use Rattle.plain_model.specs.SlowWorld.{is_in}
 use mathlib.Core.Path.{fun_ext}
 

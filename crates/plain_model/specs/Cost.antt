@@ -1,9 +1,9 @@
 -- What a checkpoint of a world may cost, in operations on the memory; those by which a core prepares a page to be stored to
 -- aren't counted.
 use Rattle.std.specs.Prelude.{ℕ, ◌+◌, ◌*◌, ◌||◌, not, Bool, true, false, List, length, filter, is_some}
-use Rattle.plain_model.specs.Objects.{every_object, every_page}
-use Rattle.plain_model.specs.Worlds.{World, has_page}
-use Rattle.plain_model.specs.Sweep.{swept, is_swept_otherwise}
+use Rattle.plain_state.specs.Objects.{every_object, every_page}
+use Rattle.plain_state.specs.Worlds.{World, has_page}
+use Rattle.plain_state.specs.Sweep.{swept, is_swept_otherwise}
 
 -- how many numbers pass a test
 abbrev pub count_of : List ℕ → (ℕ → Bool) → ℕ

@@ -8,13 +8,13 @@ use Rattle.sls_base.specs.declared.thread.ThreadState.TheVariants.{Ready}
 use Rattle.sls_base.specs.declared.image.Image.{Image}
 use Rattle.sls_base.specs.declared.image.Program.{Program}
 use Rattle.sls_base.specs.declared.image.RegionSpec.{RegionSpec}
-use Rattle.plain_model.specs.declared.calls.TheConstants.{FIRST_ARGUMENT}
+use Rattle.plain_state.specs.declared.calls.TheConstants.{FIRST_ARGUMENT}
 use Rattle.plain_model.specs.declared.image.TheConstants.{PROGRAMS, PROGRAM_THREADS, PROGRAM_REGIONS}
-use Rattle.plain_model.specs.declared.objects.Capability.{Capability}
-use Rattle.plain_model.specs.declared.objects.Region.{Region}
-use Rattle.plain_model.specs.Objects.{Object, Group, Thread, Space, Memory, OutputRing, InputRing, Scheduler, Page, empty_slots, includes, is_thread, inserted}
-use Rattle.plain_model.specs.States.{State, zero_registers}
-use Rattle.plain_model.specs.Worlds.{World}
+use Rattle.plain_state.specs.declared.objects.Capability.{Capability}
+use Rattle.plain_state.specs.declared.objects.Region.{Region}
+use Rattle.plain_state.specs.Objects.{Object, Group, Thread, Space, Memory, OutputRing, InputRing, Scheduler, Page, empty_slots, includes, is_thread, inserted}
+use Rattle.plain_state.specs.States.{State, zero_registers}
+use Rattle.plain_state.specs.Worlds.{World}
 
 -- Numbers: a program has its group, its space, a memory object for each region and its threads, in this order, and each region
 -- has its pages.

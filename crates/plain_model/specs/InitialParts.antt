@@ -4,8 +4,8 @@ use Rattle.std.specs.List.{range_with_len}
 use Rattle.sls_base.specs.declared.limits.TheConstants.{OUTPUT_CHANNELS}
 use Rattle.sls_base.specs.declared.fixed.TheConstants.{ROOT_GROUP, FIRST_OUTPUT_RING, INPUT_RING}
 use Rattle.sls_base.specs.declared.image.Program.{Program}
-use Rattle.plain_model.specs.declared.objects.Capability.{Capability}
-use Rattle.plain_model.specs.Objects.{Object, OutputRing, InputRing, Scheduler}
+use Rattle.plain_state.specs.declared.objects.Capability.{Capability}
+use Rattle.plain_state.specs.Objects.{Object, OutputRing, InputRing, Scheduler}
 use Rattle.plain_model.specs.Initial.{all_rights, if_set, root_group}
 
 -- those of a program's capabilities that come before its memory objects and its threads

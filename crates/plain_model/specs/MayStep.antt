@@ -1,9 +1,9 @@
 -- Which labels may befall a world.
 use Rattle.std.specs.Prelude.{◌<◌, ◌≤◌, List, [], ◌∷◌, length}
 use Rattle.sls_base.specs.declared.limits.TheConstants.{OUTPUT_CHANNELS, ENTRY_BYTES, LAST_VERSION}
-use Rattle.plain_model.specs.declared.label.Label.{Label}
-use Rattle.plain_model.specs.declared.label.Label.TheVariants.{Tick, Commit, Cut, Accept, Input}
-use Rattle.plain_model.specs.Worlds.{World}
+use Rattle.plain_state.specs.declared.label.Label.{Label}
+use Rattle.plain_state.specs.declared.label.Label.TheVariants.{Tick, Commit, Cut, Accept, Input}
+use Rattle.plain_state.specs.Worlds.{World}
 use Rattle.plain_model.specs.Play.{after}
 
 -- a core that there is, a version that isn't the last, a channel that there is, an input of 1 to 56 bytes

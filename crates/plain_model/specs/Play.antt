@@ -2,14 +2,14 @@
 use Rattle.std.specs.Prelude.{ℕ, ◌+◌, ◌==◌, nat_lt, Bool, false, if◌then◌else◌, List, [], ◌∷◌, ◌++◌, length, slice_index_or}
 use Rattle.sls_base.specs.declared.limits.TheConstants.{WAITING_INPUTS}
 use Rattle.sls_base.specs.declared.entry.Entry.{Entry}
-use Rattle.plain_model.specs.declared.label.Label.{Label}
-use Rattle.plain_model.specs.declared.label.Label.TheVariants.{Tick, Commit, Cut, Accept, Input}
-use Rattle.plain_model.specs.declared.label.Reply.{Reply}
-use Rattle.plain_model.specs.declared.label.Reply.TheVariants.{Committed, Went, Took, NoEntry, Put, Full}
-use Rattle.plain_model.specs.States.{State}
-use Rattle.plain_model.specs.Worlds.{World, accepted_count}
-use Rattle.plain_model.specs.Ticks.{tick, tick_reply}
-use Rattle.plain_model.specs.Sweep.{swept}
+use Rattle.plain_state.specs.declared.label.Label.{Label}
+use Rattle.plain_state.specs.declared.label.Label.TheVariants.{Tick, Commit, Cut, Accept, Input}
+use Rattle.plain_state.specs.declared.label.Reply.{Reply}
+use Rattle.plain_state.specs.declared.label.Reply.TheVariants.{Committed, Went, Took, NoEntry, Put, Full}
+use Rattle.plain_state.specs.States.{State}
+use Rattle.plain_state.specs.Worlds.{World, accepted_count}
+use Rattle.plain_state.specs.Ticks.{tick, tick_reply}
+use Rattle.plain_state.specs.Sweep.{swept}
 
 -- A commit saves one whole copy of the running state, swept.
 abbrev pub commit : World → World

@@ -2,8 +2,8 @@
 use Rattle.std.specs.Prelude.{ℕ, ◌==◌, Bool, List}
 use Rattle.std.specs.List.{list_any}
 use Rattle.plain_model.specs.declared.world.World.{World as SlowWorld}
-use Rattle.plain_model.specs.Slow.{state_of, entries_of}
-use Rattle.plain_model.specs.Worlds.{World}
+use Rattle.plain_state.specs.Slow.{state_of, entries_of}
+use Rattle.plain_state.specs.Worlds.{World}
 
 -- a set of numbers that a list has
 abbrev pub is_in : List ℕ → ℕ → Bool

@@ -2,18 +2,16 @@
 
 ghost use Rattle.std.specs.Prelude.{◌≡◌, ◌+◌, ◌*◌, ◌≤◌, is_some};
 ghost use Rattle.sls_base.specs.declared.limits.TheConstants.{OBJECTS, PAGES};
-ghost use Rattle.plain_model.specs.Objects.{every_object, every_page};
+ghost use Rattle.plain_state.specs.Objects.{every_object, every_page};
 ghost use Rattle.plain_model.specs.Cost as plain;
-ghost use Rattle.plain_model.specs.Worlds.{has_page};
-ghost use Rattle.plain_model.specs.Sweep.{swept};
-ghost use Rattle.plain_model.specs.Slow.{state_of};
-ghost use Rattle.plain_model.specs.SlowSweep.{TellsReached};
+ghost use Rattle.plain_state.specs.Worlds.{has_page};
+ghost use Rattle.plain_state.specs.Sweep.{swept};
+ghost use Rattle.plain_state.specs.Slow.{state_of};
+ghost use Rattle.plain_state.specs.SlowSweep.{TellsReached};
 ghost use Rattle.plain_model.specs.SlowWorld.{world_of};
 
-use crate::object::has_page_number;
-use crate::state::{OBJECT_END, PAGE_END, State};
-use crate::sweep::Reached;
 use crate::world::{World, has_number};
+use plain_state::{OBJECT_END, PAGE_END, Reached, State, has_page_number};
 use sls_base::{ObjId, PageNo};
 
 /// Whether a state has an object of a number.

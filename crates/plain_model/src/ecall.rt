@@ -1,23 +1,18 @@
 //! What a call does.
 
 ghost use Rattle.std.specs.Prelude.{◌≡◌, IfOk, None, map, take};
-ghost use Rattle.plain_model.specs.Objects as objects;
-ghost use Rattle.plain_model.specs.CallRefusals as refusals;
-ghost use Rattle.plain_model.specs.CallEffects as plain;
-ghost use Rattle.plain_model.specs.Worlds.{free_pages};
-ghost use Rattle.plain_model.specs.Slow.{page_of, object_of, state_of, effect_of, StoresInPages};
+ghost use Rattle.plain_state.specs.Objects as objects;
+ghost use Rattle.plain_state.specs.CallRefusals as refusals;
+ghost use Rattle.plain_state.specs.CallEffects as plain;
+ghost use Rattle.plain_state.specs.Worlds.{free_pages};
+ghost use Rattle.plain_state.specs.Slow.{page_of, object_of, state_of, effect_of, StoresInPages};
 ghost use Rattle.plain_model.specs.SlowWorld.{world_of};
 
-use crate::calls::{ANSWER, Call, Refusal};
-use crate::effect::Goes;
-use crate::object::{Object, slots_of};
-use crate::object_effects::{change, slot_number, with_cap};
-use crate::objects::Capability;
-use crate::page::Page;
-use crate::slow_calls::arg;
-use crate::slow_effect::Effect;
-use crate::state::State;
 use crate::world::World;
+use plain_state::{
+    ANSWER, Call, Capability, Effect, Goes, Object, Page, Refusal, State, arg, change, slot_number,
+    slots_of, with_cap,
+};
 use sls_base::{ALL_RIGHTS, HALTED, ObjId, PageNo, REGISTERS, Thread, ThreadState};
 use std::alloc::{AllocError, Global};
 
@@ -33,7 +28,7 @@ fn zero_pages(alloc: Global, numbers: &[PageNo]) -> Result<Vec<Page>, AllocError
 }
 
 /// The thread that a call of a thread makes.
-#[tactic(auto, unfolding(crate::specs::States::zero_registers))]
+#[tactic(auto, unfolding(plain_state::specs::States::zero_registers))]
 fn new_thread(state: &State, thread: &Thread) -> Thread
     ensures { result ≡ plain.new_thread (state_of state.now) thread.now }
 {
@@ -48,7 +43,7 @@ fn new_thread(state: &State, thread: &Thread) -> Thread
     }
 }
 
-#[tactic(auto, unfolding(crate::specs::SlowWorld::world_of, crate::specs::Slow::effect_of))]
+#[tactic(auto, unfolding(crate::specs::SlowWorld::world_of, plain_state::specs::Slow::effect_of))]
 impl World {
     /// The number of an object that a call makes.
     fn new_id(&self) -> ObjId
@@ -97,7 +92,7 @@ impl World {
     }
 
     /// What the call of a thread does that isn't refused.
-    #[tactic(auto, unfolding(crate::specs::SlowWorld::world_of, crate::specs::Slow::effect_of, crate::specs::CallEffects::effect_of_call))]
+    #[tactic(auto, unfolding(crate::specs::SlowWorld::world_of, plain_state::specs::Slow::effect_of, plain_state::specs::CallEffects::effect_of_call))]
     fn effect_of_call(
         &self,
         alloc: Global,

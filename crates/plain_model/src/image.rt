@@ -5,8 +5,7 @@ ghost use Rattle.plain_model.specs.Initial as plain;
 ghost use Rattle.plain_model.specs.Initial.{IsAccepted, IsApart, IsEntered, IsProgram, IsRegion};
 
 use crate::initial::program_size;
-use crate::object::includes;
-use crate::page::PAGE;
+use plain_state::{PAGE, includes};
 use sls_base::{
     ADDRESSES, EXECUTE, FIRST_PROGRAM_OBJECT, FIRST_PROGRAM_PAGE, INSTRUCTION_BYTES, Image,
     MEMORY_PAGES, OBJECTS, OUTPUT_CHANNELS, PAGE_BYTES, PAGES, Program, REGION_RIGHTS, RegionSpec,

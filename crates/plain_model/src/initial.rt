@@ -5,23 +5,20 @@ ghost use Rattle.std.specs.List.{range_with_len};
 ghost use Rattle.sls_base.specs.declared.limits.TheConstants.{OBJECTS, PAGES};
 ghost use Rattle.sls_base.specs.declared.fixed.TheConstants.{FIRST_PROGRAM_OBJECT};
 ghost use Rattle.plain_model.specs.declared.image.TheConstants.{PROGRAMS};
-ghost use Rattle.plain_model.specs.declared.object.Object.TheVariants as SlowObject;
+ghost use Rattle.plain_state.specs.declared.object.Object.TheVariants as SlowObject;
 ghost use Rattle.plain_model.specs.Initial as plain;
 ghost use Rattle.plain_model.specs.Initial.{IsAccepted, IsProgram};
 ghost use Rattle.plain_model.specs.InitialParts.{channel_caps, fixed_objects};
-ghost use Rattle.plain_model.specs.Objects as objects;
-ghost use Rattle.plain_model.specs.Slow.{page_of, object_of, slot_of, objects_of, state_of};
+ghost use Rattle.plain_state.specs.Objects as objects;
+ghost use Rattle.plain_state.specs.Slow.{page_of, object_of, slot_of, objects_of, state_of};
 ghost use Rattle.plain_model.specs.SlowWorld.{world_of};
-ghost use Rattle.plain_model.specs.declared.state.TheConstants.{NUMBERS};
+ghost use Rattle.plain_state.specs.declared.state.TheConstants.{NUMBERS};
 
-use crate::calls::FIRST_ARGUMENT;
-use crate::object::{Object, includes};
-use crate::object_effects::inserted;
-use crate::objects::{Capability, Region};
-use crate::page::Page;
-use crate::state::{NUMBERS, State};
 use crate::world::World;
 use arrayvec::ArrayVec;
+use plain_state::{
+    Capability, FIRST_ARGUMENT, NUMBERS, Object, Page, Region, State, includes, inserted,
+};
 use sls_base::{
     ALL_RIGHTS, FIRST_OUTPUT_RING, FIRST_PROGRAM_OBJECT, FIRST_PROGRAM_PAGE, GROUP_SLOTS,
     INPUT_RING, Image, OUTPUT_CHANNELS, ObjId, PAGE_BYTES, PageNo, Program, REGISTERS, ROOT_GROUP,
@@ -158,7 +155,7 @@ fn memory_of(alloc: Global, spec: &RegionSpec, k: PageNo) -> Result<Object, Allo
 }
 
 /// Thread `j` of a program, which begins at the entry with its first argument `j`.
-#[tactic(auto, unfolding(crate::specs::States::zero_registers))]
+#[tactic(auto, unfolding(plain_state::specs::States::zero_registers))]
 fn program_thread(program: &Program, n: ObjId, j: u8) -> Object
     requires { n < OBJECTS }
     ensures { object_of result ≡ plain.program_thread program.now n j }

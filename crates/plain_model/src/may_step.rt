@@ -4,11 +4,11 @@ ghost use Rattle.std.specs.Prelude.{◌≡◌, ◌↔◌, true};
 ghost use Rattle.plain_model.specs.MayStep.{MayStep};
 ghost use Rattle.plain_model.specs.SlowWorld.{world_of};
 
-use crate::label::Label;
 use crate::world::World;
+use plain_state::Label;
 use sls_base::{ENTRY_BYTES, LAST_VERSION, OUTPUT_CHANNELS};
 
-#[tactic(auto, unfolding(crate::specs::SlowWorld::world_of, crate::specs::Slow::state_of))]
+#[tactic(auto, unfolding(crate::specs::SlowWorld::world_of, plain_state::specs::Slow::state_of))]
 impl World {
     /// Whether a label may befall the world: a core that there is, a version that isn't the last, a channel that there is, an
     /// input of 1 to 56 bytes.

@@ -1,146 +1,25 @@
 //! What the next instruction of a thread reaches in memory, told without carrying it out.
 
-ghost use Rattle.std.specs.Prelude.{◌≡◌, ℕ, Option, option_map};
-ghost use Rattle.rv_table.specs.Table.{IsOneOf, load_ops, store_ops};
+ghost use Rattle.std.specs.Prelude.{◌≡◌, Option, option_map};
 ghost use Rattle.rv_table.specs.Decoded.{decoded};
 ghost use Rattle.rv_core.specs.Ranges.{IsPlan};
-ghost use Rattle.plain_model.specs.Memory.{places_of};
-ghost use Rattle.plain_model.specs.States.{thread_at};
-ghost use Rattle.plain_model.specs.Effects.{Effect};
-ghost use Rattle.plain_model.specs.Ticks as ticks;
-ghost use Rattle.plain_model.specs.Ticks.{puts_to_page};
-ghost use Rattle.plain_model.specs.declared.effect.Output.{Output};
-ghost use Rattle.plain_model.specs.CallEffects as calls;
-ghost use Rattle.plain_model.specs.Instructions as plain;
-ghost use Rattle.plain_model.specs.Slow.{state_of};
-ghost use Rattle.plain_model.specs.SlowReach.{IsReach, is_any_on};
+ghost use Rattle.plain_state.specs.States.{thread_at};
+ghost use Rattle.plain_state.specs.Effects.{Effect};
+ghost use Rattle.plain_state.specs.Ticks as ticks;
+ghost use Rattle.plain_state.specs.Ticks.{puts_to_page};
+ghost use Rattle.plain_state.specs.declared.effect.Output.{Output};
+ghost use Rattle.plain_state.specs.CallEffects as calls;
+ghost use Rattle.plain_state.specs.Instructions as plain;
+ghost use Rattle.plain_state.specs.SlowReach.{IsReach};
 ghost use Rattle.plain_model.specs.SlowWorld.{world_of};
 
-use crate::calls::Call;
-use crate::memory::{is_covered, place_of};
-use crate::object_effects::channel_of;
-use crate::objects::Region;
-use crate::slow_calls::arg;
-use crate::slow_effect::regs_of;
-use crate::state::State;
 use crate::world::World;
-use rv_core::{Plan, access_size, plan};
+use plain_state::{Call, NO_REACH, Reach, Span, regs_of};
+use rv_core::{Plan, plan};
 use rv_table::decode;
 use sls_base::{CoreNo, EXECUTE, INSTRUCTION_BYTES, ObjId, PageNo, READ, Thread, WRITE};
 
-/// Bytes by their addresses: so many from one on.
-#[derive(Clone, Copy)]
-pub struct Span {
-    pub at: u32,
-    pub count: u32,
-}
-
-/// What an instruction reaches beside its own bytes: those that it loads, those that it stores, and the channel on which it puts.
-#[derive(Clone, Copy)]
-pub struct Reach {
-    pub loads: Span,
-    pub stores: Span,
-    pub channel: Option<u8>,
-}
-
-/// No bytes.
-const NONE: Span = Span { at: 0, count: 0 };
-
-/// Nothing.
-const NOTHING: Reach = Reach {
-    loads: NONE,
-    stores: NONE,
-    channel: None,
-};
-
-#[tactic(auto, unfolding(crate::specs::Slow::state_of))]
-impl State {
-    /// Whether one of some bytes stands on a page.
-    pub(crate) fn is_on_page(
-        &self,
-        regions: &[Region],
-        right: u32,
-        span: Span,
-        page: PageNo,
-    ) -> bool
-        ensures { result ≡ is_any_on (state_of self.now) page (places_of regions.now right span.at span.count) }
-    {
-        (u64::from(span.at)..u64::from(span.at) + u64::from(span.count)).any(|address| {
-            self.is_byte_on_page(regions, right, address, page)
-        })
-    }
-
-    /// Whether the byte at an address stands on a page.
-    fn is_byte_on_page(&self, regions: &[Region], right: u32, at: u64, page: PageNo) -> bool
-        ensures { result ≡ is_any_on (state_of self.now) page (places_of regions.now right at 1) }
-    {
-        match place_of(regions, right, at) {
-            Some(place) => self.page_number_at(place) == page,
-            None => false,
-        }
-    }
-
-    fn reach_of_load(&self, thread: &Thread, op: u8, at: u32) -> Reach
-        requires { IsOneOf op load_ops }
-        ensures { (rd : ℕ) → IsReach (state_of self.now) thread.now result
-            (plain.load_effect (state_of self.now) thread.now op rd at) }
-    {
-        let count = access_size(op);
-        if is_covered(self.seen_by(thread), u32::from(READ), at, count) {
-            Reach {
-                loads: Span { at, count },
-                ..NOTHING
-            }
-        } else {
-            NOTHING
-        }
-    }
-
-    fn reach_of_store(&self, thread: &Thread, op: u8, at: u32) -> Reach
-        requires { IsOneOf op store_ops }
-        ensures { (value : ℕ) → IsReach (state_of self.now) thread.now result
-            (plain.store_effect (state_of self.now) thread.now op at value) }
-    {
-        let count = access_size(op);
-        if is_covered(self.seen_by(thread), u32::from(WRITE), at, count) {
-            Reach {
-                stores: Span { at, count },
-                ..NOTHING
-            }
-        } else {
-            NOTHING
-        }
-    }
-
-    /// A put loads its buffer.
-    fn reach_of_put(&self, thread: &Thread) -> Reach
-        ensures { IsReach (state_of self.now) thread.now result (calls.put_effect (state_of self.now) thread.now) }
-    {
-        let loads = Span {
-            at: arg(thread, 1),
-            count: arg(thread, 2),
-        };
-        Reach {
-            loads,
-            channel: Some(channel_of(self.named(thread, 0))),
-            ..NOTHING
-        }
-    }
-
-    /// A get stores as much of the first input as its buffer has room for.
-    fn reach_of_get(&self, thread: &Thread) -> Reach
-        ensures { IsReach (state_of self.now) thread.now result (calls.get_effect (state_of self.now) thread.now) }
-    {
-        let length = self.first_input().len() as u32;
-        let stores = Span {
-            at: arg(thread, 1),
-            count: length.min(arg(thread, 2)),
-        };
-        Reach { stores, ..NOTHING }
-    }
-}
-
-#[tactic(auto, unfolding(crate::specs::SlowWorld::world_of, crate::specs::CallEffects::effect_of_call))]
+#[tactic(auto, unfolding(crate::specs::SlowWorld::world_of, plain_state::specs::CallEffects::effect_of_call))]
 impl World {
     /// What a call reaches that isn't refused: only a put and a get reach anything.
     fn reach_of_call(&self, id: ObjId, thread: &Thread, call: Call) -> Reach
@@ -166,7 +45,7 @@ impl World {
             | Call::ConnNew
             | Call::ConnCall
             | Call::Serve
-            | Call::Checkpoint => NOTHING,
+            | Call::Checkpoint => NO_REACH,
         }
     }
 }
@@ -178,10 +57,10 @@ impl World {
         ensures { IsReach (world_of self.now).now thread.now result (calls.ecall (world_of self.now) id thread.now) }
     {
         let Some(call) = Call::named(thread) else {
-            return NOTHING;
+            return NO_REACH;
         };
         match self.refusal_of(id, thread, call) {
-            Some(_) => NOTHING,
+            Some(_) => NO_REACH,
             None => self.reach_of_call(id, thread, call),
         }
     }
@@ -196,7 +75,7 @@ impl World {
             Plan::Load { op, at, .. } => self.running.reach_of_load(thread, op, at),
             Plan::Store { op, at, .. } => self.running.reach_of_store(thread, op, at),
             Plan::Call => self.reach_of_ecall(id, thread),
-            Plan::Set { .. } | Plan::Stop(_) => NOTHING,
+            Plan::Set { .. } | Plan::Stop(_) => NO_REACH,
         }
     }
 
@@ -207,7 +86,7 @@ impl World {
     {
         match decode(word) {
             Some(instr) => self.reach_of_plan(id, thread, plan(instr, &regs_of(thread))),
-            None => NOTHING,
+            None => NO_REACH,
         }
     }
 }

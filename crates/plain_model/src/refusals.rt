@@ -2,122 +2,26 @@
 
 ghost use Rattle.std.specs.Prelude.{◌≡◌, ◌==◌, length};
 ghost use Rattle.std.specs.List.{list_any};
-ghost use Rattle.plain_model.specs.Calls as calls;
-ghost use Rattle.plain_model.specs.CallRefusals as plain;
-ghost use Rattle.plain_model.specs.Worlds.{free_pages};
-ghost use Rattle.plain_model.specs.Slow.{slot_of, state_of};
+ghost use Rattle.plain_state.specs.CallRefusals as plain;
+ghost use Rattle.plain_state.specs.Worlds.{free_pages};
+ghost use Rattle.plain_state.specs.Slow.{slot_of, state_of};
 ghost use Rattle.plain_model.specs.SlowWorld.{world_of};
 
-use crate::calls::{Call, Need, Refusal};
-use crate::memory::is_covered;
-use crate::object::{Object, includes, is_kind, pages_of, regions_of, slots_of};
-use crate::objects::{Capability, Region};
-use crate::page::PAGE;
-use crate::slow_calls::{REFUSAL_ORDER, arg, needs};
-use crate::state::{PAGE_END, State};
 use crate::world::World;
+use plain_state::{
+    Call, Object, PAGE, PAGE_END, REFUSAL_ORDER, Refusal, Region, arg, cap_in, free_slot, needs,
+    pages_of, regions_of, slots_of,
+};
 use sls_base::{
-    ADDRESSES, ENTRY_BYTES, GROUP_SLOTS, INSTRUCTION_BYTES, MEMORY_PAGES, ObjId, PAGE_BYTES, READ,
+    ADDRESSES, ENTRY_BYTES, GROUP_SLOTS, INSTRUCTION_BYTES, MEMORY_PAGES, ObjId, READ,
     REGION_RIGHTS, SPACE_REGIONS, Thread, WRITE,
 };
-
-/// The bytes that an entry may have.
-pub const ENTRY: u32 = ENTRY_BYTES as u32;
-
-#[tactic(auto, unfolding(crate::specs::Slow::state_of))]
-impl State {
-    /// The capability that an argument names.
-    pub fn cap_named(&self, thread: &Thread, i: u8) -> Option<Capability>
-        ensures { result ≡ calls.cap_named (state_of self.now) thread.now i }
-    {
-        cap_in(slots_of(self.object(thread.group)), arg(thread, i))
-    }
-
-    /// The number of the object that an argument names.
-    pub fn id_named(&self, thread: &Thread, i: u8) -> ObjId
-        ensures { result ≡ calls.id_named (state_of self.now) thread.now i }
-    {
-        match self.cap_named(thread, i) {
-            Some(cap) => cap.object,
-            None => 0,
-        }
-    }
-
-    /// The rights by which an argument names it.
-    fn rights_named(&self, thread: &Thread, i: u8) -> u32
-        ensures { result ≡ calls.rights_of_cap (calls.cap_named (state_of self.now) thread.now i) }
-    {
-        match self.cap_named(thread, i) {
-            Some(cap) => cap.rights,
-            None => 0,
-        }
-    }
-
-    /// The object that an argument names.
-    pub fn named(&self, thread: &Thread, i: u8) -> &Option<Object>
-        ensures { slot_of result.now ≡ calls.named (state_of self.now) thread.now i }
-    {
-        self.object(self.id_named(thread, i))
-    }
-
-    /// Whether something that a call needs isn't there.
-    fn is_unmet(&self, thread: &Thread, refusal: Refusal, need: &Need) -> bool
-        ensures { result ≡ plain.is_unmet (state_of self.now) thread.now refusal need.now }
-    {
-        match refusal {
-            Refusal::NoCap => self.cap_named(thread, need.argument).is_none(),
-            Refusal::WrongKind => !is_kind(need.kind, self.named(thread, need.argument)),
-            Refusal::NoRight => !includes(self.rights_named(thread, need.argument), need.rights),
-            _ => false,
-        }
-    }
-
-    /// Whether one of the things that a call needs isn't there.
-    fn is_any_unmet(&self, thread: &Thread, refusal: Refusal, needs: &[Need]) -> bool
-        ensures { result ≡ list_any (plain.is_unmet (state_of self.now) thread.now refusal) needs.now }
-    {
-        needs
-            .iter()
-            .any(|need| self.is_unmet(thread, refusal, need))
-    }
-
-    fn has_no_input(&self) -> bool
-        ensures { result ≡ (length (state_of self.now).inputs == 0) }
-    {
-        self.inputs.is_empty()
-    }
-
-    fn is_bad_buffer(&self, thread: &Thread, right: u8) -> bool
-        ensures { result ≡ plain.is_bad_buffer (state_of self.now) thread.now right }
-    {
-        !is_covered(
-            regions_of(self.object(thread.space)),
-            u32::from(right),
-            arg(thread, 1),
-            arg(thread, 2).min(ENTRY),
-        )
-    }
-}
-
-/// The capability in a slot.
-pub fn cap_in(slots: &[Option<Capability>], slot: u32) -> Option<Capability>
-    ensures { result ≡ calls.cap_in slots.now slot }
-{
-    slots.get(slot as usize).copied().unwrap_or(None)
-}
-
-/// The lowest free slot.
-pub fn free_slot(slots: &[Option<Capability>]) -> Option<usize>
-    ensures { result ≡ calls.free_slot slots.now }
-{
-    slots.iter().position(|slot| slot.is_none())
-}
 
 /// Whether a buffer has as many bytes as an entry may have.
 pub fn is_entry_length(length: u32) -> bool
     ensures { result ≡ plain.is_entry_length length }
 {
-    1 <= length && length <= ENTRY
+    1 <= length && length as usize <= ENTRY_BYTES
 }
 
 /// Whether a memory object may have so many pages.

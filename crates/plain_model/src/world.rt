@@ -4,27 +4,23 @@ ghost use Rattle.std.specs.Prelude.{◌≡◌, ℕ, ◌+◌, ◌<◌, ◌==◌, 
 ghost use Rattle.std.specs.List.{list_any};
 ghost use Rattle.sls_base.specs.declared.limits.TheConstants.{LAST_VERSION};
 ghost use Rattle.sls_base.specs.declared.fixed.TheConstants.{SCHEDULER};
-ghost use Rattle.plain_model.specs.Worlds as worlds;
-ghost use Rattle.plain_model.specs.Worlds.{accepted_count};
-ghost use Rattle.plain_model.specs.States.{view_of};
+ghost use Rattle.plain_state.specs.Worlds as worlds;
+ghost use Rattle.plain_state.specs.Worlds.{accepted_count};
+ghost use Rattle.plain_state.specs.States.{view_of};
 ghost use Rattle.plain_model.specs.Play as play;
 ghost use Rattle.plain_model.specs.Play.{after};
-ghost use Rattle.plain_model.specs.Ticks.{tick, tick_reply, world_of_effect, stores_to, puts_to_page, puts_to_ring, writes};
-ghost use Rattle.plain_model.specs.Memory.{page_at};
+ghost use Rattle.plain_state.specs.Ticks.{tick, tick_reply, world_of_effect, stores_to, puts_to_page, puts_to_ring, writes};
+ghost use Rattle.plain_state.specs.Memory.{page_at};
 ghost use Rattle.plain_model.specs.MayStep.{MayStep};
-ghost use Rattle.plain_model.specs.Slow.{entries_of, state_of, effect_of, StoresInPages};
-ghost use Rattle.plain_model.specs.SlowChosen.{chosen_of};
+ghost use Rattle.plain_state.specs.Slow.{entries_of, state_of, effect_of, StoresInPages};
+ghost use Rattle.plain_state.specs.SlowChosen.{chosen_of};
 ghost use Rattle.plain_model.specs.SlowWorld.{world_of, is_in};
 
-use crate::calls::ANSWER;
-use crate::copies::copy_of_bytes;
-use crate::effect::{ByteStore, Output};
-use crate::label::{Label, Reply};
-use crate::object::Object;
-use crate::slow_effect::{Change, Effect};
-use crate::state::{OBJECT_END, PAGE_END, State, Waiting};
-use crate::tick::{Chosen, choose};
 use arrayvec::ArrayVec;
+use plain_state::{
+    ANSWER, ByteStore, Change, Chosen, Effect, Label, OBJECT_END, Object, Output, PAGE_END, Reply,
+    State, Waiting, choose, copy_of_bytes,
+};
 use sls_base::{
     CoreNo, Entry, FIRST_OUTPUT_RING, ObjId, PageNo, RING_ENTRIES, SCHEDULER, ThreadView, Version,
     WAITING_INPUTS,
@@ -107,19 +103,21 @@ fn with_ring_put(numbers: &mut Vec<u16>, output: &Option<Output>) -> Result<(), 
     Ok(())
 }
 
-#[tactic(auto, unfolding(crate::specs::Slow::state_of))]
-impl State {
-    /// The list with the numbers of the pages that stores are to.
-    fn with_stored(&self, numbers: &mut Vec<u16>, stores: &[ByteStore]) -> Result<(), AllocError>
-        ensures { OnOk result ((n : ℕ) → is_in numbers.new.items n
-            ≡ (is_in numbers.old.items n
-            || list_any (λ store. (page_at (state_of self.now).objects store.place).number == n) stores.now)) }
-    {
-        for store in stores {
-            with_number(numbers, self.page_number_at(store.place))?;
-        }
-        Ok(())
+/// The list with the numbers of the pages that stores are to.
+#[tactic(auto, unfolding(plain_state::specs::Slow::state_of))]
+fn with_stored(
+    numbers: &mut Vec<u16>,
+    state: &State,
+    stores: &[ByteStore],
+) -> Result<(), AllocError>
+    ensures { OnOk result ((n : ℕ) → is_in numbers.new.items n
+        ≡ (is_in numbers.old.items n
+        || list_any (λ store. (page_at (state_of state.now).objects store.place).number == n) stores.now)) }
+{
+    for store in stores {
+        with_number(numbers, state.page_number_at(store.place))?;
     }
+    Ok(())
 }
 
 /// A copy of the bytes of an entry of a channel, by its number among that channel's.
@@ -133,7 +131,7 @@ fn entry_at(outputs: &[Output], channel: u8, number: u64) -> Option<ArrayVec<u8,
     Some(copy_of_bytes(&output.bytes))
 }
 
-#[tactic(auto, unfolding(crate::specs::SlowWorld::world_of, crate::specs::Slow::state_of, crate::specs::Slow::effect_of))]
+#[tactic(auto, unfolding(crate::specs::SlowWorld::world_of, plain_state::specs::Slow::state_of, plain_state::specs::Slow::effect_of))]
 impl World {
     /// The running state.
     pub fn running(&self) -> &State
@@ -299,8 +297,7 @@ impl World {
             ≡ ((world_of self.now).stored page || stores_to (state_of self.now.running) (effect_of effect.now) page)) }
     {
         let mut stored = Vec::from_slice(alloc, self.stored.as_slice())?;
-        self.running
-            .with_stored(&mut stored, effect.stores.as_slice())?;
+        with_stored(&mut stored, &self.running, effect.stores.as_slice())?;
         with_page_put(&mut stored, &effect.output)?;
         Ok(stored)
     }

@@ -1,6 +1,6 @@
 use Rattle.std.proofs.Common.{◌≡◌, map, take}
-use Rattle.plain_model.specs.Objects.{new_page}
-use Rattle.plain_model.specs.Slow.{page_of}
+use Rattle.plain_state.specs.Objects.{new_page}
+use Rattle.plain_state.specs.Slow.{page_of}
 use Rattle.plain_model.proofs.ecall.zero_pages.Given as goal
 
 abbrev pub invariant-loop-number : goal.invariant-loop-number

@@ -1,6 +1,6 @@
 use Rattle.std.proofs.Common.{◌≡◌, ◌≤◌, ◌+◌, ◌++◌, drop, map, sum_by}
 use Rattle.plain_model.specs.Initial as plain
-use Rattle.plain_model.specs.Slow.{object_of}
+use Rattle.plain_state.specs.Slow.{object_of}
 use Rattle.plain_model.proofs.initial.add_memories.Given as goal
 
 abbrev pub invariant-loop-spec : goal.invariant-loop-spec

@@ -1,7 +1,7 @@
 use Rattle.std.proofs.Common.{◌∙◌, ◌+◌, refl, ap, map, arith}
 use Rattle.std.proofs.lemmas.List.{map_push}
 use Rattle.plain_model.specs.Initial as plain
-use Rattle.plain_model.specs.Slow.{object_of}
+use Rattle.plain_state.specs.Slow.{object_of}
 use Rattle.plain_model.proofs.SlowInitial.{behind_more}
 use Rattle.plain_model.proofs.initial.add_program.Goals as goal
 

@@ -1,7 +1,7 @@
 use Rattle.std.proofs.Common.{◌∙◌, ap, map, length, Some, arith}
 use Rattle.std.proofs.lemmas.List.{length-map}
-use Rattle.plain_model.specs.Slow.{object_of, slot_of, objects_of}
-use Rattle.plain_model.proofs.SlowMemory.{one_longer}
+use Rattle.plain_state.specs.Slow.{object_of, slot_of, objects_of}
+use Rattle.plain_state.proofs.SlowMemory.{one_longer}
 use Rattle.plain_model.proofs.SlowInitial.{objects_more, objects_from}
 use Rattle.plain_model.proofs.initial.by_number.Goals as goal
 

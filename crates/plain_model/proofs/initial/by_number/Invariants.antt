@@ -1,6 +1,6 @@
 use Rattle.std.proofs.Common.{◌≡◌, ◌≤◌, map, length}
 use Rattle.std.specs.Prelude.{slice_get}
-use Rattle.plain_model.specs.Slow.{object_of, objects_of}
+use Rattle.plain_state.specs.Slow.{object_of, objects_of}
 use Rattle.plain_model.proofs.initial.by_number.Given as goal
 
 abbrev pub invariant-loop : goal.invariant-loop

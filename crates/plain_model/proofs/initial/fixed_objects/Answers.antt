@@ -1,8 +1,8 @@
 use Rattle.std.proofs.Common.{◌∙◌, ◌+◌, refl, ap, map, arith}
 use Rattle.std.proofs.lemmas.List.{map_push}
-use Rattle.plain_model.specs.Objects as plain
-use Rattle.plain_model.specs.Slow.{object_of}
-use Rattle.plain_model.specs.declared.object.Object.TheVariants as slow
+use Rattle.plain_state.specs.Objects as plain
+use Rattle.plain_state.specs.Slow.{object_of}
+use Rattle.plain_state.specs.declared.object.Object.TheVariants as slow
 use Rattle.plain_model.proofs.SlowInitial.{behind_more}
 use Rattle.plain_model.proofs.initial.fixed_objects.Goals as goal
 

@@ -3,7 +3,7 @@ use Rattle.std.proofs.lemmas.List.{length-map}
 use Rattle.std.proofs.lemmas.List.Sums.{sum_by-cons}
 use Rattle.plain_model.specs.Initial as plain
 use Rattle.plain_model.specs.Initial.{IsProgram, image_objects}
-use Rattle.plain_model.specs.Slow.{object_of}
+use Rattle.plain_state.specs.Slow.{object_of}
 use Rattle.plain_model.proofs.SlowInitial.{programs_more, count_more, drop_next, others_too}
 use Rattle.plain_model.proofs.initial.image_objects.Goals as goal
 

@@ -1,7 +1,7 @@
 use Rattle.std.proofs.Common.{◌≡◌, ◌≤◌, ◌+◌, ◌++◌, All, drop, length, map, sum_by}
 use Rattle.plain_model.specs.Initial as plain
 use Rattle.plain_model.specs.Initial.{IsProgram}
-use Rattle.plain_model.specs.Slow.{object_of}
+use Rattle.plain_state.specs.Slow.{object_of}
 use Rattle.plain_model.proofs.initial.image_objects.Given as goal
 
 abbrev pub invariant-loop-program : goal.invariant-loop-program

@@ -1,8 +1,8 @@
 use Rattle.std.proofs.Common.{◌≡◌, ℕ, List, Option, ◌∙◌, ap, map, replicate, None, rules}
 use Rattle.std.specs.Prelude.{slice_get}
-use Rattle.plain_model.specs.declared.objects.Occupant.{Occupant}
+use Rattle.plain_state.specs.declared.objects.Occupant.{Occupant}
 use Rattle.plain_model.specs.Initial as plain
-use Rattle.plain_model.specs.Slow.{object_of, objects_of, state_of}
+use Rattle.plain_state.specs.Slow.{object_of, objects_of, state_of}
 use Rattle.plain_model.proofs.SlowInitial.{first_state, threads_same}
 use Rattle.plain_model.proofs.initial.initial.Goals as goal
 

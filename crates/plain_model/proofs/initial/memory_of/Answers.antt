@@ -1,6 +1,6 @@
 use Rattle.std.proofs.Common.{ℕ, List, ◌∙◌, ap, map, arith}
 use Rattle.plain_model.specs.Initial as plain
-use Rattle.plain_model.specs.Slow.{page_of}
+use Rattle.plain_state.specs.Slow.{page_of}
 use Rattle.plain_model.proofs.SlowInitial.{mapped_more}
 use Rattle.plain_model.proofs.initial.memory_of.Goals as goal
 

@@ -1,7 +1,7 @@
 use Rattle.std.proofs.Common.{◌∙◌, ◌+◌, ◌-◌, ap, length, arith}
 use Rattle.plain_model.specs.Initial as plain
 use Rattle.plain_model.specs.InitialParts.{channel_caps}
-use Rattle.plain_model.proofs.SlowMemory.{one_longer}
+use Rattle.plain_state.proofs.SlowMemory.{one_longer}
 use Rattle.plain_model.proofs.SlowInitial.{behind_more}
 use Rattle.plain_model.proofs.initial.program_slots.Goals as goal
 

@@ -1,7 +1,7 @@
 use Rattle.std.proofs.Common.{◌≡◌, ℕ, ◌∙◌, ap, sym, map, arith, Bool, Vec, Global}
 use Rattle.std.specs.Prelude.{slice_get}
-use Rattle.plain_model.specs.Objects as objects
-use Rattle.plain_model.specs.Slow.{object_of}
+use Rattle.plain_state.specs.Objects as objects
+use Rattle.plain_state.specs.Slow.{object_of}
 use Rattle.plain_model.proofs.SlowInitial.{filter_taken, filter_left, object_at}
 use Rattle.plain_model.proofs.initial.thread_numbers.Goals as goal
 use Rattle.plain_model.proofs.initial.thread_numbers.Goals.{then-is_thread+in_ok-push, else-is_thread}

@@ -3,7 +3,7 @@ use Rattle.std.specs.Prelude.{not}
 use Rattle.std.proofs.lemmas.Iterator.{YieldsList-from_slice}
 use Rattle.std.proofs.lemmas.Iterator.Search.{any_from_yields_List}
 use Rattle.sls_base.specs.declared.limits.TheConstants.{PAGE_BYTES}
-use Rattle.plain_model.specs.declared.objects.Region.{Region}
+use Rattle.plain_state.specs.declared.objects.Region.{Region}
 use Rattle.plain_model.proofs.refusals.no_region_at.Goals as goal
 
 pub returns : goal.returns

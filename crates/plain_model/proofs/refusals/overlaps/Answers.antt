@@ -1,7 +1,7 @@
 use Rattle.std.proofs.Common.{rules, tests}
 use Rattle.std.proofs.lemmas.Iterator.{YieldsList-from_slice}
 use Rattle.std.proofs.lemmas.Iterator.Search.{any_from_yields_List}
-use Rattle.plain_model.specs.CallRefusals.{meets}
+use Rattle.plain_state.specs.CallRefusals.{meets}
 use Rattle.plain_model.proofs.refusals.overlaps.Goals as goal
 
 pub returns : goal.returns

@@ -2,7 +2,7 @@ use Rattle.std.proofs.Common.{◌≡◌, ◌==◌, ◌∙◌, Some, None, sym, a
 use Rattle.std.specs.Prelude.{option_map, slice_get}
 use Rattle.std.proofs.lemmas.Iterator.{YieldsList-from_slice}
 use Rattle.std.proofs.lemmas.Iterator.Consumers.{YieldsList-from_filter, nth_from_yields_List}
-use Rattle.plain_model.specs.declared.effect.Output.{Output}
+use Rattle.plain_state.specs.declared.effect.Output.{Output}
 use Rattle.plain_model.proofs.SlowWorlds.{got_map}
 use Rattle.plain_model.proofs.world.entry_at.Goals as goal
 

@@ -1,6 +1,6 @@
 use Rattle.std.proofs.Common.{◌==◌, ℕ, ap, ◌∙◌}
 use Rattle.std.specs.Prelude.{◌||◌}
-use Rattle.plain_model.specs.declared.slow_effect.Change.{Change}
+use Rattle.plain_state.specs.declared.slow_effect.Change.{Change}
 use Rattle.plain_model.specs.SlowWorld.{is_in}
 use Rattle.plain_model.proofs.SlowWorlds.{more_in}
 use Rattle.plain_model.proofs.world.with_changed.Goals as goal

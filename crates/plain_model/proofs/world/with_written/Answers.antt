@@ -1,6 +1,6 @@
 use Rattle.std.proofs.Common.{◌==◌, ℕ, ap, ◌∙◌}
 use Rattle.std.specs.Prelude.{◌||◌}
-use Rattle.plain_model.specs.declared.effect.ByteStore.{ByteStore}
+use Rattle.plain_state.specs.declared.effect.ByteStore.{ByteStore}
 use Rattle.plain_model.specs.SlowWorld.{is_in}
 use Rattle.plain_model.proofs.SlowWorlds.{more_in_at, no_store}
 use Rattle.plain_model.proofs.world.with_written.Goals as goal

@@ -1,7 +1,7 @@
 use Rattle.std.proofs.Common.{◌≡◌, ◌∙◌, List, Some, length, ap, refl, sym, arith}
 use Rattle.std.specs.Prelude.{slice_get}
-use Rattle.plain_model.specs.declared.effect.Output.{Output}
-use Rattle.plain_model.specs.Slow.{state_of, entries_of}
+use Rattle.plain_state.specs.declared.effect.Output.{Output}
+use Rattle.plain_state.specs.Slow.{state_of, entries_of}
 use Rattle.plain_model.specs.SlowWorld.{world_of}
 use Rattle.plain_model.proofs.SlowWorlds.{one_released, accept_some, reply_some}
 use Rattle.plain_model.proofs.world.World.accept.Goals as goal

@@ -2,8 +2,8 @@ use Rattle.std.proofs.Common.{◌≡◌, ◌==◌, ◌∙◌, sym, length, filte
 use Rattle.std.proofs.lemmas.List.{length-map}
 use Rattle.std.proofs.lemmas.Iterator.{YieldsList-from_slice}
 use Rattle.std.proofs.lemmas.Iterator.Consumers.{YieldsList-from_filter, count_from_yields_List}
-use Rattle.plain_model.specs.declared.effect.Output.{Output}
-use Rattle.plain_model.specs.Slow.{entries_of}
+use Rattle.plain_state.specs.declared.effect.Output.{Output}
+use Rattle.plain_state.specs.Slow.{entries_of}
 use Rattle.plain_model.specs.SlowWorld.{world_of}
 use Rattle.plain_model.proofs.world.World.accepted.Goals as goal
 

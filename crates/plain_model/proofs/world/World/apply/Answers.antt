@@ -1,9 +1,9 @@
 use Rattle.std.proofs.Common.{◌==◌, ℕ}
 use Rattle.std.specs.Prelude.{◌||◌}
-use Rattle.plain_model.specs.Slow.{state_of, effect_of}
-use Rattle.plain_model.specs.SlowChosen.{chosen_of}
+use Rattle.plain_state.specs.Slow.{state_of, effect_of}
+use Rattle.plain_state.specs.SlowChosen.{chosen_of}
 use Rattle.plain_model.specs.SlowWorld.{world_of, is_in}
-use Rattle.plain_model.specs.Ticks.{state_of_effect, stores_to, writes}
+use Rattle.plain_state.specs.Ticks.{state_of_effect, stores_to, writes}
 use Rattle.plain_model.proofs.SlowWorlds.{world_same}
 use Rattle.plain_model.proofs.world.World.apply.Goals as goal
 

@@ -1,11 +1,11 @@
 use Rattle.std.proofs.Common.{◌==◌, ℕ, List, ap, map, ◌∙◌, Bool}
 use Rattle.std.specs.Prelude.{◌||◌}
 use Rattle.std.specs.List.{list_any}
-use Rattle.plain_model.specs.declared.effect.ByteStore.{ByteStore}
-use Rattle.plain_model.specs.declared.slow_effect.Change.{Change as SlowChange}
-use Rattle.plain_model.specs.Effects.{Change}
-use Rattle.plain_model.specs.Ticks.{puts_to_ring}
-use Rattle.plain_model.specs.Slow.{effect_of, change_of}
+use Rattle.plain_state.specs.declared.effect.ByteStore.{ByteStore}
+use Rattle.plain_state.specs.declared.slow_effect.Change.{Change as SlowChange}
+use Rattle.plain_state.specs.Effects.{Change}
+use Rattle.plain_state.specs.Ticks.{puts_to_ring}
+use Rattle.plain_state.specs.Slow.{effect_of, change_of}
 use Rattle.plain_model.specs.SlowWorld.{world_of, is_in}
 use Rattle.plain_model.proofs.SlowWorlds.{five_in, any_added, any_changed}
 use Rattle.plain_model.proofs.world.World.changed_after.Goals as goal

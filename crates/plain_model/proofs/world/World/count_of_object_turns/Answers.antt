@@ -2,7 +2,7 @@ use Rattle.std.proofs.Common.{◌≡◌, ◌≤◌, subst, sym, ℕ, refl, rules
 use Rattle.std.proofs.lemmas.Iterator.{YieldsList-from_range}
 use Rattle.std.proofs.lemmas.Iterator.Consumers.{YieldsList-from_filter, count_from_yields_List}
 use Rattle.plain_model.specs.Cost as plain
-use Rattle.plain_model.specs.Objects.{every_object}
+use Rattle.plain_state.specs.Objects.{every_object}
 use Rattle.plain_model.specs.SlowWorld.{world_of}
 use Rattle.plain_model.proofs.SlowCosts.{few_objects}
 use Rattle.plain_model.proofs.world.World.count_of_object_turns.Goals as goal

@@ -2,8 +2,8 @@ use Rattle.std.proofs.Common.{◌∙◌, ℕ, refl, sym, rules, tests}
 use Rattle.std.specs.Prelude.{not}
 use Rattle.std.proofs.lemmas.Iterator.{YieldsList-from_range}
 use Rattle.std.proofs.lemmas.Iterator.Search.{find_from_yields_List}
-use Rattle.plain_model.specs.Objects.{every_object}
-use Rattle.plain_model.specs.Worlds.{free_objects, is_used_object}
+use Rattle.plain_state.specs.Objects.{every_object}
+use Rattle.plain_state.specs.Worlds.{free_objects, is_used_object}
 use Rattle.plain_model.specs.SlowWorld.{world_of}
 use Rattle.plain_model.proofs.SlowWorlds.{first_kept, option_same}
 use Rattle.plain_model.proofs.world.World.free_object.Goals as goal

@@ -2,8 +2,8 @@ use Rattle.std.proofs.Common.{ℕ, refl, rules, tests}
 use Rattle.std.specs.Prelude.{not}
 use Rattle.std.proofs.lemmas.Iterator.{YieldsList-from_range}
 use Rattle.std.proofs.lemmas.Iterator.Consumers.{YieldsList-from_filter, count_from_yields_List}
-use Rattle.plain_model.specs.Objects.{every_page}
-use Rattle.plain_model.specs.Worlds.{free_pages, is_used_page}
+use Rattle.plain_state.specs.Objects.{every_page}
+use Rattle.plain_state.specs.Worlds.{free_pages, is_used_page}
 use Rattle.plain_model.specs.SlowWorld.{world_of}
 use Rattle.plain_model.proofs.world.World.free_page_count.Goals as goal
 

@@ -1,8 +1,8 @@
 use Rattle.std.proofs.Common.{◌≡◌, ℕ, Vec, Global, ap, sym, ◌∙◌, arith}
 use Rattle.std.specs.Prelude.{not, filter}
 use Rattle.std.specs.List.{range_with_len}
-use Rattle.plain_model.specs.Objects.{every_page}
-use Rattle.plain_model.specs.Worlds.{free_pages, is_used_page}
+use Rattle.plain_state.specs.Objects.{every_page}
+use Rattle.plain_state.specs.Worlds.{free_pages, is_used_page}
 use Rattle.plain_model.specs.SlowWorld.{world_of}
 use Rattle.plain_model.proofs.SlowWorlds.{number_kept, number_left}
 use Rattle.plain_model.proofs.world.World.free_pages.Goals as goal

@@ -1,7 +1,7 @@
 use Rattle.std.proofs.Common.{◌≡◌, ℕ}
 use Rattle.std.specs.Prelude.{not, filter}
 use Rattle.std.specs.List.{range_with_len}
-use Rattle.plain_model.specs.Worlds.{is_used_page}
+use Rattle.plain_state.specs.Worlds.{is_used_page}
 use Rattle.plain_model.specs.SlowWorld.{world_of}
 use Rattle.plain_model.proofs.world.World.free_pages.Given as goal
 

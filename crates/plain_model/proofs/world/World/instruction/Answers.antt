@@ -1,8 +1,8 @@
 use Rattle.std.proofs.Common.{◌≡◌, ◌∙◌, Some, None, refl, sym, rules}
-use Rattle.plain_model.specs.Instructions.{with_fetch, fetched, obeyed}
+use Rattle.plain_state.specs.Instructions.{with_fetch, fetched, obeyed}
 use Rattle.rv_table.specs.Decoded.{decoded}
-use Rattle.plain_model.specs.Slow.{effect_of}
-use Rattle.plain_model.specs.SlowReach.{word_at_pc}
+use Rattle.plain_state.specs.Slow.{effect_of}
+use Rattle.plain_state.specs.SlowReach.{word_at_pc}
 use Rattle.plain_model.specs.SlowWorld.{world_of}
 use Rattle.plain_model.proofs.SlowReaches.{instruction_at, no_instruction_at}
 use Rattle.plain_model.proofs.world.World.instruction.Goals as goal

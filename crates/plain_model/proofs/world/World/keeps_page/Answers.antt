@@ -1,9 +1,9 @@
 use Rattle.std.proofs.Common.{◌∙◌, ◌&&◌, ℕ, refl, rules, tests}
 use Rattle.std.proofs.lemmas.Iterator.{YieldsList-from_range}
 use Rattle.std.proofs.lemmas.Iterator.Search.{any_from_yields_List}
-use Rattle.plain_model.specs.Objects.{every_object}
-use Rattle.plain_model.specs.Slow.{state_of}
-use Rattle.plain_model.specs.SlowSweep.{has}
+use Rattle.plain_state.specs.Objects.{every_object}
+use Rattle.plain_state.specs.Slow.{state_of}
+use Rattle.plain_state.specs.SlowSweep.{has}
 use Rattle.plain_model.proofs.SlowCosts.{has_number, page_kept}
 use Rattle.plain_model.proofs.world.World.keeps_page.Goals as goal
 

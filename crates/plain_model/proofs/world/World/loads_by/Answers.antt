@@ -1,10 +1,10 @@
 use Rattle.std.proofs.Common.{◌≡◌, ◌∙◌, Some, None, rules}
 use Rattle.sls_base.specs.declared.rights.TheConstants.{READ}
 use Rattle.rv_table.specs.Decoded.{decoded}
-use Rattle.plain_model.specs.States.{thread_at}
-use Rattle.plain_model.specs.Memory.{places_of}
-use Rattle.plain_model.specs.Instructions.{obeyed, fetched, seen_by}
-use Rattle.plain_model.specs.SlowReach.{IsReach, is_any_on, word_at_pc}
+use Rattle.plain_state.specs.States.{thread_at}
+use Rattle.plain_state.specs.Memory.{places_of}
+use Rattle.plain_state.specs.Instructions.{obeyed, fetched, seen_by}
+use Rattle.plain_state.specs.SlowReach.{IsReach, is_any_on, word_at_pc}
 use Rattle.plain_model.specs.SlowWorld.{world_of}
 use Rattle.plain_model.proofs.SlowReaches.{either_first, either_second, loads_there, loads_nowhere}
 use Rattle.plain_model.proofs.world.World.loads_by.Goals as goal

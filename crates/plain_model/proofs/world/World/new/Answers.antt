@@ -1,6 +1,6 @@
 use Rattle.std.proofs.Common.{◌∙◌}
 use Rattle.plain_model.specs.Initial as plain
-use Rattle.plain_model.specs.Slow.{state_of}
+use Rattle.plain_state.specs.Slow.{state_of}
 use Rattle.plain_model.specs.SlowWorld.{world_of}
 use Rattle.plain_model.proofs.SlowInitial.{first_world}
 use Rattle.plain_model.proofs.world.World.new.Goals as goal

@@ -1,8 +1,8 @@
 use Rattle.std.proofs.Common.{◌∙◌, rules, tests}
 use Rattle.std.proofs.lemmas.Iterator.{YieldsList-from_slice}
 use Rattle.std.proofs.lemmas.Iterator.Search.{find_from_yields_List}
-use Rattle.plain_model.specs.Refusals.{refusal_order}
-use Rattle.plain_model.specs.CallRefusals.{is_refused_by, refusal_of}
+use Rattle.plain_state.specs.Refusals.{refusal_order}
+use Rattle.plain_state.specs.CallRefusals.{is_refused_by, refusal_of}
 use Rattle.plain_model.specs.SlowWorld.{world_of}
 use Rattle.plain_model.proofs.world.World.refusal_of.Goals as goal
 

@@ -1,9 +1,9 @@
 use Rattle.std.proofs.Common.{◌==◌, ℕ, Bool, List, ap, ◌∙◌}
 use Rattle.std.specs.List.{list_any}
-use Rattle.plain_model.specs.declared.effect.ByteStore.{ByteStore}
-use Rattle.plain_model.specs.Memory.{page_at}
-use Rattle.plain_model.specs.Ticks.{puts_to_page}
-use Rattle.plain_model.specs.Slow.{state_of, effect_of}
+use Rattle.plain_state.specs.declared.effect.ByteStore.{ByteStore}
+use Rattle.plain_state.specs.Memory.{page_at}
+use Rattle.plain_state.specs.Ticks.{puts_to_page}
+use Rattle.plain_state.specs.Slow.{state_of, effect_of}
 use Rattle.plain_model.specs.SlowWorld.{world_of, is_in}
 use Rattle.plain_model.proofs.SlowWorlds.{two_in, any_added}
 use Rattle.plain_model.proofs.world.World.stored_after.Goals as goal

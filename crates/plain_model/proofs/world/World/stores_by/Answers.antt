@@ -1,9 +1,9 @@
 use Rattle.std.proofs.Common.{◌≡◌, ◌∙◌, Some, None, rules}
 use Rattle.rv_table.specs.Decoded.{decoded}
-use Rattle.plain_model.specs.States.{thread_at}
-use Rattle.plain_model.specs.Instructions.{obeyed}
-use Rattle.plain_model.specs.Ticks.{stores_to}
-use Rattle.plain_model.specs.SlowReach.{word_at_pc}
+use Rattle.plain_state.specs.States.{thread_at}
+use Rattle.plain_state.specs.Instructions.{obeyed}
+use Rattle.plain_state.specs.Ticks.{stores_to}
+use Rattle.plain_state.specs.SlowReach.{word_at_pc}
 use Rattle.plain_model.specs.SlowWorld.{world_of}
 use Rattle.plain_model.proofs.SlowReaches.{stores_there, stores_nowhere}
 use Rattle.plain_model.proofs.world.World.stores_by.Goals as goal

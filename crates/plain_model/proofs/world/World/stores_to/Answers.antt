@@ -1,9 +1,9 @@
 use Rattle.std.proofs.Common.{◌≡◌, ◌∙◌, rules}
 use Rattle.sls_base.specs.declared.rights.TheConstants.{WRITE}
-use Rattle.plain_model.specs.Memory.{places_of}
-use Rattle.plain_model.specs.Instructions.{seen_by}
-use Rattle.plain_model.specs.Slow.{state_of}
-use Rattle.plain_model.specs.SlowReach.{is_any_on}
+use Rattle.plain_state.specs.Memory.{places_of}
+use Rattle.plain_state.specs.Instructions.{seen_by}
+use Rattle.plain_state.specs.Slow.{state_of}
+use Rattle.plain_state.specs.SlowReach.{is_any_on}
 use Rattle.plain_model.specs.SlowWorld.{world_of}
 use Rattle.plain_model.proofs.SlowReaches.{either_first, either_second, is_stored}
 use Rattle.plain_model.proofs.world.World.stores_to.Goals as goal

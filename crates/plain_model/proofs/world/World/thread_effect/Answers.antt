@@ -1,8 +1,8 @@
 use Rattle.std.proofs.Common.{◌≡◌, ℕ, List, [], ◌∷◌, ◌++◌, ap, ◌∙◌, refl}
-use Rattle.plain_model.specs.Objects.{Thread}
-use Rattle.plain_model.specs.Effects.{Effect}
-use Rattle.plain_model.specs.CallEffects.{makes, new_id, new_thread}
-use Rattle.plain_model.specs.Slow.{effect_of}
+use Rattle.plain_state.specs.Objects.{Thread}
+use Rattle.plain_state.specs.Effects.{Effect}
+use Rattle.plain_state.specs.CallEffects.{makes, new_id, new_thread}
+use Rattle.plain_state.specs.Slow.{effect_of}
 use Rattle.plain_model.specs.SlowWorld.{world_of}
 use Rattle.plain_model.proofs.world.World.thread_effect.Goals as goal
 

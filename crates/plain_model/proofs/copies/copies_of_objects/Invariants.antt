@@ -1,6 +1,0 @@
-use Rattle.std.proofs.Common.{◌≡◌, map, take}
-use Rattle.plain_model.specs.Slow.{slot_of}
-use Rattle.plain_model.proofs.copies.copies_of_objects.Given as goal
-
-abbrev pub invariant-loop-object : goal.invariant-loop-object
-invariant-loop-object l = map slot_of l.copies.items ≡ map slot_of (take l.object-index l.objects)

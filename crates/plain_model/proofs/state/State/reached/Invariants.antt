@@ -1,6 +1,0 @@
-use Rattle.plain_model.specs.Slow.{state_of}
-use Rattle.plain_model.specs.SlowSweep.{TellsWithin}
-use Rattle.plain_model.proofs.state.State.reached.Given as goal
-
-abbrev pub invariant-loop : goal.invariant-loop
-invariant-loop l = TellsWithin l.reached (state_of l.self) l.counter

@@ -1,0 +1,8 @@
+mod SlowSweeps
+pub mod SlowLists
+pub mod SlowMemory
+mod SlowStates
+mod SlowValues
+mod SlowPlaces
+pub mod SlowSweepSteps
+mod SlowTicks

@@ -1,0 +1,10 @@
+use Rattle.std.proofs.Common.{rules, tests}
+use Rattle.std.proofs.lemmas.Iterator.{YieldsList-from_slice}
+use Rattle.std.proofs.lemmas.Iterator.Search.{any_from_yields_List}
+use Rattle.plain_state.specs.CallRefusals.{is_unmet}
+use Rattle.plain_state.specs.Slow.{state_of}
+use Rattle.plain_state.proofs.state.State.is_any_unmet.Goals as goal
+
+pub returns : goal.returns
+returns c =
+    any_from_yields_List (is_unmet (state_of c.args.self.now) c.args.thread.now c.args.refusal) _ _ c.any.result c.any.ensures.ran (YieldsList-from_slice c.args.needs.now cc) (λ x b q k. search (rules, tests))

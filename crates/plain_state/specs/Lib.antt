@@ -1,0 +1,17 @@
+pub mod Objects
+pub mod States
+pub mod Memory
+pub mod Worlds
+pub mod Effects
+pub mod Refusals
+pub mod Calls
+pub mod CallRefusals
+pub mod CallEffects
+pub mod Instructions
+pub mod Ticks
+pub mod Sweep
+pub mod InPages
+pub mod Slow
+pub mod SlowChosen
+pub mod SlowSweep
+pub mod SlowReach
