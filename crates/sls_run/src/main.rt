@@ -1,22 +1,14 @@
-//! Runs jobs on a machine with persistent memory, and reports as the plain machine would.
+//! The program: runs the job on standard input, and reports on standard output.
 #![tactic(auto)]
 
 ghost use Rattle.std.specs.Prelude.{◌≡◌, ◌↔◌, [], drop, IsOk, IfOk, IfErr, OnErr};
 ghost use Rattle.std.specs.Vec.Iter.{into_iter_items};
 ghost use Rattle.std.specs.IoError.{error_kind};
 
-mod code;
-mod drive;
-#[cfg(test)]
-mod edge_tests;
-mod lines;
-mod report;
-mod run_job;
-mod status;
 #[cfg(test)]
 mod tests;
 
-use crate::run_job::{no_memory, run_job};
+use job_run::{no_memory, run_job};
 use pmem_model::Pmem;
 use sls_io::{MemShelf, StdSink, StdSource};
 use std::alloc::{AllocError, Global};

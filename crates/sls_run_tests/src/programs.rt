@@ -4,7 +4,7 @@ ghost use Rattle.std.specs.Prelude.{IfOk};
 ghost use Rattle.sls_kernel.specs.Program.{IsOfCode};
 
 use pmem_model::Pmem;
-use sls_base::{Image, PAGE_BYTES, Program, REGION_RIGHTS, RegionSpec};
+use sls_base::{Image, PAGE_BYTES};
 use sls_kernel::{Asked, Did, Machine};
 use std::alloc::Global;
 use std::process::Abort;
@@ -30,9 +30,6 @@ pub const CHECKPOINT: u32 = 16;
 /// The turns of recovery.
 pub const RECOVERY: u32 = 5;
 
-/// The channels of a program of code words: the four outputs, the input and the root group.
-const ALL_CHANNELS: u8 = 63;
-
 /// The image of a program.
 pub fn image_of(rt: &impl Abort, alloc: Global, code: &[u32]) -> Result<Image, Fail>
     ensures { IfOk result IsOfCode }
@@ -42,21 +39,7 @@ pub fn image_of(rt: &impl Abort, alloc: Global, code: &[u32]) -> Result<Image, F
         content.extend_from_slice(&word.to_le_bytes())?;
     }
     assert!(rt; content.len() <= PAGE_BYTES);
-    let mut regions = Vec::new(alloc);
-    regions.push(RegionSpec {
-        base: 0,
-        pages: 1,
-        rights: REGION_RIGHTS,
-        content,
-    })?;
-    let mut programs = Vec::new(alloc);
-    programs.push(Program {
-        entry: 0,
-        threads: 1,
-        channels: ALL_CHANNELS,
-        regions,
-    })?;
-    Ok(Image { programs })
+    Ok(job_run::image_of(alloc, content)?)
 }
 
 /// The image of the program that counts.
