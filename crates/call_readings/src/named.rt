@@ -108,7 +108,12 @@ fn is_unmet(objects: &Objects, thread: &Thread, refusal: Refusal, need: &Need) -
 }
 
 /// Whether one of the things that a call needs isn't there.
-pub(crate) fn is_any_unmet(objects: &Objects, thread: &Thread, refusal: Refusal, needs: &[Need]) -> bool
+pub(crate) fn is_any_unmet(
+    objects: &Objects,
+    thread: &Thread,
+    refusal: Refusal,
+    needs: &[Need],
+) -> bool
     ensures { (rest : Rest) → result
         ≡ list_any (refusals.is_unmet (state_of objects.now rest) thread.now refusal) needs.now }
 {

@@ -1,6 +1,6 @@
 //! The numbers in use.
 
-ghost use Rattle.std.specs.Prelude.{◌≡◌, ◌==◌, ◌||◌, ◌*◌, ◌<◌, ℕ, List, false, filter, find, not, length, slice_get, IfSome};
+ghost use Rattle.std.specs.Prelude.{◌≡◌, ◌==◌, ◌||◌, ◌*◌, ◌<◌, ◌≤◌, ℕ, List, false, filter, find, not, length, slice_get, IfSome};
 ghost use Rattle.std.specs.List.{range_with_len};
 ghost use Rattle.sls_base.specs.declared.limits.TheConstants.{OBJECTS, PAGES};
 ghost use Rattle.pmem_layout.specs.declared.places.TheConstants.{BASE_BITS};
@@ -43,7 +43,10 @@ fn insert(words: &mut [u64], number: usize)
 
 /// The least number that isn't in a set. It is None exactly where each of those that it can have is.
 fn least_absent(words: &[u64]) -> Option<usize>
-    ensures { result ≡ find (λ number. not (sets.is_in words.now number)) (range_with_len 0 (BASE_BITS * length words.now)) }
+    requires few { length words.now ≤ PAGE_WORDS }
+    ensures range { IfSome result (λ number. number < BASE_BITS * length words.now) }
+    ensures absent { IfSome result (λ number. sets.is_in words.now number ≡ false) }
+    ensures least { result ≡ find (λ number. not (sets.is_in words.now number)) (range_with_len 0 (BASE_BITS * length words.now)) }
 {
     for (place, word) in words.iter().enumerate() {
         if *word != u64::MAX {
@@ -55,6 +58,7 @@ fn least_absent(words: &[u64]) -> Option<usize>
 
 /// How many numbers are not in a set.
 fn count_of_absent(words: &[u64]) -> usize
+    requires few { length words.now ≤ PAGE_WORDS }
     ensures { result
         ≡ length (filter (λ number. not (sets.is_in words.now number)) (range_with_len 0 (BASE_BITS * length words.now))) }
 {

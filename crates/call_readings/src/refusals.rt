@@ -1,13 +1,14 @@
 //! When a call is refused: the first refusal, in the stated order, that holds for any of its arguments.
 
-ghost use Rattle.std.specs.Prelude.{◌≡◌, ◌≤◌, ◌==◌, ℕ, length};
+ghost use Rattle.std.specs.Prelude.{◌≡◌, ◌<◌, ◌≤◌, ◌==◌, ℕ, length, slice_index, Some};
 ghost use Rattle.std.specs.List.{list_any};
 ghost use Rattle.sls_base.specs.declared.limits.TheConstants.{PAGE_BYTES};
-ghost use Rattle.plain_model.specs.Worlds.{World};
+ghost use Rattle.plain_model.specs.Worlds.{World, accepted_count};
 ghost use Rattle.plain_model.specs.Objects as plain_objects;
 ghost use Rattle.plain_model.specs.CallRefusals as plain;
+ghost use Rattle.kobj_table.specs.Slots.{ring_of};
 ghost use Rattle.kobj_table.specs.Objects.{Rest, object_at, state_of};
-ghost use Rattle.call_readings.specs.Kernel.{IsCounted, IsAttached, world_of};
+ghost use Rattle.call_readings.specs.Kernel.{IsCounted, IsAttached, CountsEntries, world_of};
 
 use crate::devices::Devices;
 use crate::named::{id_named, is_any_unmet};
@@ -92,6 +93,9 @@ fn page_count(objects: &Objects, id: ObjId) -> usize
 
 /// Whether an output ring has as many entries that wait to be accepted as it can hold, or its count is the greatest.
 fn is_full(ring: &Ring, devices: &Devices) -> bool
+    ensures { (w : World) → CountsEntries (Slot.Ring ring.now) w → ((channel : ℕ) → channel < OUTPUT_CHANNELS
+        → slice_index devices.now.accepted channel ≡ accepted_count w channel)
+        → result ≡ plain.is_full_ring w (Some (ring_of ring.now.channel)) }
 {
     match devices.accepted.get(usize::from(ring.channel)) {
         Some(accepted) => {
@@ -216,8 +220,6 @@ pub fn refusal_of(
 {
     REFUSAL_ORDER
         .iter()
-        .find(|refusal| {
-            is_refused_by(objects, numbers, devices, me, thread, call, **refusal)
-        })
+        .find(|refusal| { is_refused_by(objects, numbers, devices, me, thread, call, **refusal) })
         .copied()
 }

@@ -77,10 +77,9 @@ pub fn has_region_from(objects: &Objects, space: ObjId, at: u32) -> bool
         (plain_objects.regions_of (object_at content objects.now space)) }
 {
     match objects.slot(space) {
-        Some(Slot::Space(space)) => space
-            .regions
-            .iter()
-            .any(|region| PAGE_BYTES as u64 * u64::from(region.base) == u64::from(at)),
+        Some(Slot::Space(space)) => space.regions.iter().any(|region| PAGE_BYTES as u64
+            * u64::from(region.base)
+            == u64::from(at)),
         _ => false,
     }
 }

@@ -1,0 +1,6 @@
+pub mod Caps
+pub mod Converted
+pub mod Ends
+pub mod Ranges
+pub mod Bits
+pub mod Members
