@@ -1,6 +1,6 @@
 pub mod SlowInitial
-mod SlowReaches
-mod SlowRefusals
+pub mod SlowReaches
+pub mod SlowRefusals
 mod SlowCosts
 mod SlowWorlds
 mod SlowImages
