@@ -4,3 +4,5 @@ pub mod Ends
 pub mod Ranges
 pub mod Bits
 pub mod Members
+pub mod Words
+pub mod Inputs

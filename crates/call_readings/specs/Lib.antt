@@ -1,2 +1,5 @@
 pub mod NumberSets
 pub mod Kernel
+pub mod Content
+pub mod Reach
+pub mod Need

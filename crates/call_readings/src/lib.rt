@@ -2,13 +2,18 @@
 //! whether it is refused, and which pages the next tick of a core reaches.
 #![tactic(auto)]
 
+mod content;
 mod devices;
 mod named;
 mod numbers;
+mod reach;
 mod refusals;
 mod regions;
 
+pub use content::{WORD_BYTES, number_on_page};
 pub use devices::Devices;
 pub use named::{cap_named, id_named};
 pub use numbers::NumbersInUse;
+pub use reach::{Reach, reach_of};
 pub use refusals::refusal_of;
+pub use regions::{is_covered, region_at};
