@@ -6,3 +6,6 @@ pub mod Bits
 pub mod Members
 pub mod Words
 pub mod Inputs
+pub mod Chooses
+pub mod Reached
+pub mod Fetches

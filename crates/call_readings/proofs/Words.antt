@@ -1,5 +1,5 @@
 -- Numbers in the bytes of words and pages.
-use Rattle.std.specs.Prelude.{◌≡◌, ◌⊎◌, ℕ, zero, suc, ◌+◌, ◌-◌, ◌*◌, ◌/◌, ◌%◌, ◌^◌, ◌<◌, ◌≤◌, Bool, true, false}
+use Rattle.std.specs.Prelude.{◌≡◌, ℕ, zero, suc, ◌+◌, ◌*◌, ◌/◌, ◌%◌, ◌^◌, ◌<◌, ◌≤◌, Bool, true, false}
 use Rattle.std.proofs.Common.{refl, sym, ap, ◌∙◌, arith}
 use Rattle.std.proofs.lemmas.Nat.{mod-pow-add, shr-shr}
 use Rattle.sls_base.specs.declared.limits.TheConstants.{PAGE_BYTES, PAGES}
@@ -27,7 +27,7 @@ number_of_word word k (suc n) h =
     let first = byte_is word k (omega arith) in
     let up : word / 2 ^ (8 * (k + 1)) ≡ word / 2 ^ (8 * k) / 2 ^ 8 = ap (λ e. word / 2 ^ e) (omega arith) ∙ sym (shr-shr word (8 * k) 8) in
     let split : word / 2 ^ (8 * k) % 2 ^ (8 * suc n) ≡ (word / 2 ^ (8 * k) / 2 ^ 8 % 2 ^ (8 * n)) * 2 ^ 8 + word / 2 ^ (8 * k) % 2 ^ 8 =
-        ap (λ e. word / 2 ^ (8 * k) % 2 ^ e) (omega arith) ∙ mod-pow-add (word / 2 ^ (8 * k)) (8 * n) 8 in
+    ap (λ e. word / 2 ^ (8 * k) % 2 ^ e) (omega arith) ∙ mod-pow-add (word / 2 ^ (8 * k)) (8 * n) 8 in
     rw (rest, first, up, split) (omega arith)
 
 -- bytes that are alike make one number

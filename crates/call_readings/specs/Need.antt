@@ -1,5 +1,5 @@
 -- The pages that the next tick of a core needs.
-use Rattle.std.specs.Prelude.{◌≡◌, ℕ, ◌<◌, ◌==◌, Bool, List, Option, Some, None, option_map, IfSome}
+use Rattle.std.specs.Prelude.{◌≡◌, ℕ, ◌<◌, ◌==◌, Bool, List, Option, Some, None, option_map}
 use Rattle.std.specs.List.{list_any}
 use Rattle.sls_base.specs.declared.limits.TheConstants.{PAGES}
 use Rattle.sls_base.specs.declared.rights.TheConstants.{EXECUTE}

@@ -1,6 +1,6 @@
 //! The bytes of pages in the persistent memory.
 
-ghost use Rattle.std.specs.Prelude.{◌≡◌, ℕ, ◌+◌, ◌%◌, ◌<◌, ◌≤◌};
+ghost use Rattle.std.specs.Prelude.{◌≡◌, ℕ, ◌+◌, ◌%◌, ◌<◌, ◌≤◌, true};
 ghost use Rattle.sls_base.specs.declared.limits.TheConstants.{PAGE_BYTES, PAGES};
 ghost use Rattle.pmem_model.specs.Memory.{is_frame_home};
 ghost use Rattle.pmem_layout.specs.Places as places;
@@ -18,6 +18,7 @@ pub const WORD_BYTES: u32 = 8;
 /// Whether the runtime frame of a page is at home. One that there isn't has none that could be away.
 pub(crate) fn is_home(nvm: &Pmem, page: PageNo) -> bool
     ensures home { page < PAGES → result ≡ is_frame_home nvm.now (places.runtime_frame page) }
+    ensures past { PAGES ≤ page → result ≡ true }
 {
     usize::from(page) >= PAGES || nvm.is_home(runtime_frame(page))
 }

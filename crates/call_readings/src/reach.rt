@@ -74,7 +74,13 @@ fn channel_of(objects: &Objects, id: ObjId) -> u8
 /// What a call reaches that isn't refused: a put loads its buffer, and a get stores as much of the first input as its
 /// buffer has room for.
 #[tactic(auto, unfolding(crate::specs::Kernel::world_of, kobj_table::specs::Objects::state_of, plain_model::specs::CallEffects::effect_of_call))]
-fn reach_of_call(objects: &Objects, devices: &Devices, me: ObjId, thread: &Thread, call: Call) -> Reach
+fn reach_of_call(
+    objects: &Objects,
+    devices: &Devices,
+    me: ObjId,
+    thread: &Thread,
+    call: Call,
+) -> Reach
     ensures { (w : World) (rest : Rest) → IsAttached objects.now devices.now (world_of objects.now rest w)
         → refusals.refusal_of (world_of objects.now rest w) me thread.now call ≡ None
         → IsReach (world_of objects.now rest w).now thread.now result
@@ -83,7 +89,10 @@ fn reach_of_call(objects: &Objects, devices: &Devices, me: ObjId, thread: &Threa
     let at = arg(thread, 1);
     let count = arg(thread, 2);
     match call {
-        Call::Put => Reach::Puts(Span { at, count }, channel_of(objects, id_named(objects, thread, 0))),
+        Call::Put => Reach::Puts(
+            Span { at, count },
+            channel_of(objects, id_named(objects, thread, 0)),
+        ),
         Call::Get => {
             let length = u32::from(devices.first_input.unwrap_or(0));
             let count = length.min(count);

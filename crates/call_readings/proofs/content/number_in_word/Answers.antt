@@ -11,7 +11,7 @@ overflow_cast-result-3 c =
     let a = c.args in
     let shifted = a.word / 2 ^ (8 * a.k) in
     let mask : 18446744073709551615 / 2 ^ (64 - 8 * a.size) ≡ 2 ^ (8 * a.size) - 1 =
-        ones_shr 64 (64 - 8 * a.size) (omega arith) ∙ ap (λ k. 2 ^ k - 1) (omega arith) in
+    ones_shr 64 (64 - 8 * a.size) (omega arith) ∙ ap (λ k. 2 ^ k - 1) (omega arith) in
     let low : bit_and shifted (18446744073709551615 / 2 ^ (64 - 8 * a.size)) ≡ shifted % 2 ^ (8 * a.size) = rw mask (and_mask shifted (8 * a.size)) in
     let small = power_of_bytes a.size c.requires.size.1 in
     let below : shifted % 2 ^ (8 * a.size) < 2 ^ (8 * a.size) = mod-lt shifted (pow_pos (8 * a.size)) in
@@ -21,5 +21,5 @@ pub returns : goal.returns
 returns c fits =
     let a = c.args in
     let mask : 18446744073709551615 / 2 ^ (64 - 8 * a.size) ≡ 2 ^ (8 * a.size) - 1 =
-        ones_shr 64 (64 - 8 * a.size) (omega arith) ∙ ap (λ k. 2 ^ k - 1) (omega arith) in
+    ones_shr 64 (64 - 8 * a.size) (omega arith) ∙ ap (λ k. 2 ^ k - 1) (omega arith) in
     rw (number_of_word a.word a.k a.size fits, mask) (and_mask _ _)

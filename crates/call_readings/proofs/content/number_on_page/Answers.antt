@@ -1,4 +1,4 @@
-use Rattle.std.proofs.Common.{◌≡◌, ◌∙◌, ◌+◌, ◌/◌, ◌%◌, ◌≤◌, ◌<◌, true, false, ap, sym, refl, arith, rules}
+use Rattle.std.proofs.Common.{◌≡◌, ◌∙◌, ◌+◌, ◌/◌, ◌%◌, ◌≤◌, ◌<◌, true, false, ap, sym, refl, arith}
 use Rattle.sls_base.specs.declared.limits.TheConstants.{PAGES}
 use Rattle.pmem_layout.specs.Places.{frame_at, runtime_frame}
 use Rattle.pmem_model.specs.Memory.{word_at}
@@ -32,6 +32,6 @@ returns c content reads fits =
     let old : c.args.page.fresh ≡ false = c.if-page.false in
     let offset = c.args.offset in
     let word_is : c.read-word.result ≡ (word_at c.args.nvm.now (frame_at (runtime_frame page) + offset / 8)).cached =
-        c.read-word.ensures ∙ ap (λ at. (word_at c.args.nvm.now (at + offset / 8)).cached) (c.frame_at.ensures.at ∙ ap frame_at c.runtime_frame.ensures.frame) in
+    c.read-word.ensures ∙ ap (λ at. (word_at c.args.nvm.now (at + offset / 8)).cached) (c.frame_at.ensures.at ∙ ap frame_at c.runtime_frame.ensures.frame) in
     rw old (c.number_in_word.ensures fits ∙ ap (λ word. number_in (byte_of word) (offset % 8) c.args.size) word_is
     ∙ sym (number_of_page content c.args.nvm.now page offset c.args.size reads inside (c.requires.home inside) c.requires.offset fits))
