@@ -5,7 +5,7 @@ use Rattle.std.specs.List.{position_or_len}
 use Rattle.std.proofs.Common.{refl, arith}
 use Rattle.std.proofs.lemmas.List.{length-map}
 use Rattle.cap_group.specs.declared.cap.Cap.{Cap}
-use Rattle.plain_model.specs.declared.objects.Capability.{Capability}
+use Rattle.plain_state.specs.declared.objects.Capability.{Capability}
 use Rattle.kobj_table.specs.Slots.{capability_of}
 
 -- the slots as the plain machine has them

@@ -4,7 +4,7 @@ use Rattle.std.specs.List.{list_all, list_any, range_with_len}
 use Rattle.std.proofs.Common.{refl, sym, ◌∙◌, ap, inl, inr, arith}
 use Rattle.std.proofs.lemmas.Bool.{cases_Bool}
 use Rattle.sls_base.specs.declared.limits.TheConstants.{PAGE_BYTES}
-use Rattle.plain_model.specs.declared.objects.Region.{Region}
+use Rattle.plain_state.specs.declared.objects.Region.{Region}
 use Rattle.plain_model.specs.Memory.{covers, place_of, place_in, is_covered}
 
 -- a test of an address says the same of each address on a page

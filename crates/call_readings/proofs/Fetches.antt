@@ -7,8 +7,8 @@ use Rattle.sls_base.specs.declared.rights.TheConstants.{EXECUTE}
 use Rattle.sls_base.specs.declared.causes.TheConstants.{NO_ACCESS}
 use Rattle.sls_base.specs.declared.thread.Thread.{Thread as ThreadRecord}
 use Rattle.mem_space.specs.declared.memory.MemPage.{MemPage}
-use Rattle.plain_model.specs.declared.effect.Place.{Place}
-use Rattle.plain_model.specs.declared.objects.Region.{Region}
+use Rattle.plain_state.specs.declared.effect.Place.{Place}
+use Rattle.plain_state.specs.declared.objects.Region.{Region}
 use Rattle.plain_model.specs.Objects.{Object, Page}
 use Rattle.plain_model.specs.States.{State}
 use Rattle.plain_model.specs.Memory.{covers, is_covered, page_at, byte_at, place_in, place_of, places_of, number_of_bytes}

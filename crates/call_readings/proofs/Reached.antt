@@ -3,15 +3,16 @@ use Rattle.std.specs.Prelude.{◌≡◌, ℕ, ◌+◌, ◌-◌, ◌/◌, ◌≤�
 use Rattle.std.specs.List.{list_any, cons_option}
 use Rattle.std.proofs.Common.{refl, sym, ap, ◌∙◌}
 use Rattle.sls_base.specs.declared.limits.TheConstants.{PAGE_BYTES}
-use Rattle.plain_model.specs.declared.effect.Place.{Place}
-use Rattle.plain_model.specs.declared.effect.Output.{Output}
-use Rattle.plain_model.specs.declared.objects.Region.{Region}
+use Rattle.plain_state.specs.declared.effect.Place.{Place}
+use Rattle.plain_state.specs.declared.effect.Output.{Output}
+use Rattle.plain_state.specs.declared.objects.Region.{Region}
 use Rattle.plain_model.specs.Objects.{Object}
 use Rattle.plain_model.specs.States.{State}
 use Rattle.plain_model.specs.Memory.{covers, page_at, place_in, places_of}
 use Rattle.plain_model.specs.Effects.{Effect}
 use Rattle.plain_model.specs.Ticks.{loads_from, stores_to, puts_to_page}
-use Rattle.plain_model.proofs.SlowReaches.{any_place, any_stored}
+use Rattle.plain_state.proofs.SlowPlaces.{any_place}
+use Rattle.plain_model.proofs.SlowReaches.{any_stored}
 use Rattle.call_readings.specs.Reach.{is_any_on, ReachesPlaces}
 use Rattle.call_readings.proofs.Ends.{IsByPage, one_covering, any_by_ends}
 

@@ -4,8 +4,8 @@ use Rattle.std.specs.List.{list_any}
 use Rattle.sls_base.specs.declared.limits.TheConstants.{PAGE_BYTES}
 use Rattle.sls_base.specs.declared.rights.TheConstants.{READ, WRITE}
 use Rattle.sls_base.specs.declared.thread.Thread.{Thread as ThreadRecord}
-use Rattle.plain_model.specs.declared.effect.Place.{Place}
-use Rattle.plain_model.specs.declared.reach.Span.{Span}
+use Rattle.plain_state.specs.declared.effect.Place.{Place}
+use Rattle.plain_state.specs.declared.reach.Span.{Span}
 use Rattle.plain_model.specs.Objects.{Object}
 use Rattle.plain_model.specs.States.{State}
 use Rattle.plain_model.specs.Memory.{page_at, places_of}

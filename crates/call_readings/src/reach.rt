@@ -73,7 +73,7 @@ fn channel_of(objects: &Objects, id: ObjId) -> u8
 
 /// What a call reaches that isn't refused: a put loads its buffer, and a get stores as much of the first input as its
 /// buffer has room for.
-#[tactic(auto, unfolding(crate::specs::Kernel::world_of, kobj_table::specs::Objects::state_of, plain_model::specs::CallEffects::effect_of_call))]
+#[tactic(auto, unfolding(crate::specs::Kernel::world_of, kobj_table::specs::Objects::state_of, plain_state::specs::CallEffects::effect_of_call))]
 fn reach_of_call(
     objects: &Objects,
     devices: &Devices,

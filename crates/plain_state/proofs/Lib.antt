@@ -3,6 +3,6 @@ pub mod SlowLists
 pub mod SlowMemory
 mod SlowStates
 mod SlowValues
-mod SlowPlaces
+pub mod SlowPlaces
 pub mod SlowSweepSteps
 mod SlowTicks

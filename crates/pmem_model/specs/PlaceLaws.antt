@@ -107,6 +107,9 @@ home-frame m f o h =
     let high : nat_lt (17920 + 512 * f + o) TABLE_WORDS ≡ false = grind (arith, nat_tests) in
     rw (high, bank_of-frame f o h) refl
 
+pub home-at : (m : Memory) (at f o : ℕ) → at ≡ 17920 + 512 * f + o → o < 512 → is_at_home m at ≡ is_frame_home m f
+home-at m at f o is h = rw is (home-frame m f o h)
+
 -- the table is always at home
 pub table_home : (m : Memory) (at : ℕ) → at < TABLE_WORDS → is_at_home m at ≡ true
 table_home m at h = let low : nat_lt at TABLE_WORDS ≡ true = grind (arith, nat_tests) in rw low refl

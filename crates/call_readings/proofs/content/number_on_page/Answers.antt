@@ -2,7 +2,7 @@ use Rattle.std.proofs.Common.{◌≡◌, ◌∙◌, ◌+◌, ◌/◌, ◌%◌, �
 use Rattle.sls_base.specs.declared.limits.TheConstants.{PAGES}
 use Rattle.pmem_layout.specs.Places.{frame_at, runtime_frame}
 use Rattle.pmem_model.specs.Memory.{word_at}
-use Rattle.pmem_model.specs.PlaceLaws.{bank_of-at}
+use Rattle.pmem_model.specs.PlaceLaws.{home-at}
 use Rattle.call_readings.specs.Content.{byte_of, number_in}
 use Rattle.call_readings.proofs.Words.{number_of_page, number_of_zeros, zeros_of_none}
 use Rattle.call_readings.proofs.content.number_on_page.Goals.{then-page-via-then-page, then-page-via-else-page+then-from-ge-PAGES}
@@ -22,8 +22,8 @@ pub read-word-requires-clause-home : goal.read-word-requires-clause-home
 read-word-requires-clause-home c =
     let page = c.args.page.page in
     let inside : page < PAGES = omega arith in
-    let bank = bank_of-at (c.frame_at.result + c.args.offset / 8) (runtime_frame page) (c.args.offset / 8) (omega arith) (omega arith) in
-    rw bank (c.requires.home inside)
+    let at = c.frame_at.result + c.args.offset / 8 in
+    home-at c.args.nvm.now at (runtime_frame page) (c.args.offset / 8) (omega arith) (omega arith) ∙ c.requires.home inside
 
 pub returns : goal.returns
 returns c content reads fits =

@@ -6,7 +6,7 @@ use Rattle.sls_base.specs.declared.rights.TheConstants.{EXECUTE}
 use Rattle.rv_table.specs.Decoded.{decoded}
 use Rattle.pmem_layout.specs.Places.{runtime_frame}
 use Rattle.pmem_model.specs.Memory.{is_frame_home}
-use Rattle.plain_model.specs.declared.effect.Place.{Place}
+use Rattle.plain_state.specs.declared.effect.Place.{Place}
 use Rattle.plain_model.specs.Memory.{page_at, place_of}
 use Rattle.plain_model.specs.Instructions.{seen_by, obeyed, fetched, with_fetch}
 use Rattle.plain_model.specs.Ticks.{loads_from, stores_to}

@@ -1,13 +1,13 @@
 use Rattle.std.proofs.Common.{◌≡◌, ◌∙◌, ◌≤◌, ℕ, [], None, length, ap, refl, subst, arith, rules}
 use Rattle.std.specs.Prelude.{min, slice_index_or}
 use Rattle.sls_base.specs.declared.rights.TheConstants.{WRITE}
-use Rattle.plain_model.specs.declared.calls.Call.{Call}
+use Rattle.plain_state.specs.declared.calls.Call.{Call}
 use Rattle.plain_model.specs.Calls.{arg, named}
 use Rattle.plain_model.specs.CallRefusals.{refusal_of}
 use Rattle.plain_model.specs.CallEffects.{channel_of, effect_of_call}
 use Rattle.plain_model.specs.Instructions.{seen_by}
 use Rattle.plain_model.proofs.SlowRefusals.{put_size}
-use Rattle.plain_model.proofs.SlowReaches.{get_places}
+use Rattle.plain_state.proofs.SlowPlaces.{get_places}
 use Rattle.kobj_table.specs.Objects.{object_at, state_of}
 use Rattle.call_readings.specs.Kernel.{world_of}
 use Rattle.call_readings.proofs.Inputs.{first_length}

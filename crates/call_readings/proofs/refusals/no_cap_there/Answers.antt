@@ -2,7 +2,7 @@ use Rattle.std.proofs.Common.{◌≡◌, ◌∙◌, ap, sym, arith, false}
 use Rattle.std.specs.Prelude.{is_none, Option, option_map, nat_le}
 use Rattle.std.proofs.lemmas.Bool.Decides.{nat_tests}
 use Rattle.sls_base.specs.declared.limits.TheConstants.{GROUP_SLOTS}
-use Rattle.plain_model.specs.declared.objects.Capability.{Capability}
+use Rattle.plain_state.specs.declared.objects.Capability.{Capability}
 use Rattle.kobj_table.specs.Slots.{capability_of}
 use Rattle.call_readings.proofs.Caps.{found_cap, none_by_test, none_converted}
 use Rattle.call_readings.proofs.refusals.no_cap_there.Goals as goal

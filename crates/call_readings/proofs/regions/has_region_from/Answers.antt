@@ -3,7 +3,7 @@ use Rattle.std.proofs.lemmas.Iterator.{YieldsList-from_slice}
 use Rattle.std.proofs.lemmas.Iterator.Search.{any_from_yields_List}
 use Rattle.sls_base.specs.declared.limits.TheConstants.{PAGE_BYTES}
 use Rattle.mem_space.specs.declared.region.Region.{Region}
-use Rattle.plain_model.specs.declared.objects.Region.{Region as PlainRegion}
+use Rattle.plain_state.specs.declared.objects.Region.{Region as PlainRegion}
 use Rattle.kobj_table.specs.Slots.{region_of}
 use Rattle.call_readings.proofs.Converted.{any_converted}
 use Rattle.call_readings.proofs.regions.has_region_from.Goals as goal

@@ -1,6 +1,6 @@
 use Rattle.std.proofs.Common.{◌≡◌, ◌∙◌, ◌+◌, ◌-◌, ap, sym, arith, rules, true, ℕ}
 use Rattle.std.specs.Prelude.{is_some, find, ◌&&◌, Option}
-use Rattle.plain_model.specs.declared.objects.Region.{Region as PlainRegion}
+use Rattle.plain_state.specs.declared.objects.Region.{Region as PlainRegion}
 use Rattle.plain_model.specs.Objects.{regions_of}
 use Rattle.plain_model.specs.Memory.{covers}
 use Rattle.kobj_table.specs.Slots.{region_of}
