@@ -88,5 +88,6 @@ tick_changes w core c e =
       cores = λ other ne. ap (λ (v : World). slice_index_or v.now.cores other None) is ∙ effect_cores w core c (effect_for w c) other ne;
       saved = ap (λ (v : World). v.saved) is;
       released = ap (λ (v : World). v.released) is;
+      base = ap (λ (v : World). v.base) is;
       version = ap (λ (v : World). v.version) is;
     }

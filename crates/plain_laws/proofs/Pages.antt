@@ -11,10 +11,10 @@ use Rattle.plain_model.specs.States.{thread_at}
 use Rattle.plain_model.specs.Memory.{memory_with, page_with, no_page, page_at, with_store, with_stores}
 use Rattle.plain_model.specs.Worlds.{World, has_page}
 use Rattle.plain_model.specs.Effects.{Change}
-use Rattle.plain_model.specs.Ticks.{Chosen, chosen, effect_for, world_of_effect, state_of_effect, with_changes, thread_after, at_slice_end, stores_to, puts_to_page}
+use Rattle.plain_model.specs.Ticks.{Chosen, chosen, tick, ticked, effect_for, world_of_effect, state_of_effect, with_changes, thread_after, at_slice_end, stores_to, puts_to_page}
 use Rattle.plain_laws.specs.Places.{IsPlaced}
 use Rattle.plain_laws.specs.Kept.{page_of}
-use Rattle.plain_laws.specs.Ticks.{KeepsPages}
+use Rattle.plain_laws.specs.Ticks.{KeepsPages, KeepsPageNumbers}
 use Rattle.sls_base.proofs.ListTests.{any_in, in_any, or_false}
 use Rattle.plain_laws.proofs.Changes.{other_object, tick_is}
 use Rattle.plain_laws.proofs.Apart.{store_at_same}
@@ -123,3 +123,16 @@ effect_has_page w core c placed chose page h =
     let same : page_numbers (after.objects r.0) ≡ page_numbers (w.now.objects r.0) =
     ap page_numbers (tick_stores w core c placed chose r.0 some) ∙ stores_same (effect_for w c).stores w.now.objects r.0 in
     any_in (λ i. list_any (λ number. number == page) (page_numbers (after.objects i))) every_object r.0 r.1 (ap (list_any (λ number. number == page)) same ∙ r.2)
+
+-- the numbers of an object's pages
+
+numbers_after : (w : World) (core : ℕ) (c : Option Chosen) → IsPlaced w.now → chosen w.now core ≡ c → (i : ℕ) → page_numbers (w.now.objects i) ≢ []
+    → page_numbers ((tick w core).now.objects i) ≡ page_numbers (w.now.objects i)
+numbers_after w core None placed e i some = ap (λ (v : World). page_numbers (v.now.objects i)) (ap (ticked w core) e)
+numbers_after w core (Some c) placed e i some =
+    ap (λ (v : World). page_numbers (v.now.objects i)) (tick_is w core c e)
+    ∙ ap page_numbers (tick_stores w core c placed e i some)
+    ∙ stores_same (effect_for w c).stores w.now.objects i
+
+pub tick_keeps_numbers : (w : World) (core : ℕ) → IsPlaced w.now → KeepsPageNumbers w core
+tick_keeps_numbers w core placed = numbers_after w core (chosen w.now core) placed refl

@@ -1,5 +1,5 @@
 -- What a tick changes, what it reaches, and on what of a world it depends.
-use Rattle.std.specs.Prelude.{◌≡◌, ◌≢◌, ◌⊎◌, ℕ, ◌-◌, ◌≤◌, Bool, true, false, if◌then◌else◌, List, ◌++◌, length, drop, is_some, Contains, Some, None, slice_index_or, slice_set}
+use Rattle.std.specs.Prelude.{◌≡◌, ◌≢◌, ◌⊎◌, ℕ, ◌-◌, ◌≤◌, Bool, true, false, if◌then◌else◌, List, [], ◌++◌, length, drop, is_some, Contains, Some, None, slice_index_or, slice_set}
 use Rattle.rv_table.specs.declared.Instr.TheVariants.{Ecall}
 use Rattle.rv_table.specs.Decoded.{decoded}
 use Rattle.sls_base.specs.declared.fixed.TheConstants.{SCHEDULER}
@@ -12,7 +12,7 @@ use Rattle.plain_state.specs.declared.calls.Refusal.{Refusal}
 use Rattle.plain_state.specs.declared.calls.Refusal.TheVariants.{BadCall}
 use Rattle.plain_state.specs.declared.effect.Goes.{Goes}
 use Rattle.plain_state.specs.declared.effect.Goes.TheVariants.{On}
-use Rattle.plain_model.specs.Objects.{Page, Thread}
+use Rattle.plain_model.specs.Objects.{Page, Thread, page_numbers}
 use Rattle.plain_model.specs.States.{State, thread_at}
 use Rattle.plain_model.specs.Memory.{is_covered}
 use Rattle.plain_model.specs.Worlds.{World, is_used_object, is_used_page, put_count, accepted_count}
@@ -45,6 +45,7 @@ pub record ChangesOnly (w : World) (core : ℕ) (c : Chosen) : Type 0 where
       → slice_index_or (tick w core).now.cores other None ≡ slice_index_or w.now.cores other None
   pub saved : (tick w core).saved ≡ w.saved
   pub released : (tick w core).released ≡ w.released
+  pub base : (tick w core).base ≡ w.base
   pub version : (tick w core).version ≡ w.version
 
 -- A page that the tick doesn't store to stays, with each byte.
@@ -52,6 +53,12 @@ abbrev pub KeepsPages : World → ℕ → Chosen → Type 0
 KeepsPages w core c =
     (i k : ℕ) (page : Page) → page_of w.now i k ≡ Some page → stores_to w.now (effect_for w c) page.number ≡ false
     → page_of (tick w core).now i k ≡ Some page
+
+-- An object that has pages keeps their numbers, in their order.
+abbrev pub KeepsPageNumbers : World → ℕ → Type 0
+KeepsPageNumbers w core =
+    (i : ℕ) → page_numbers (w.now.objects i) ≢ []
+    → page_numbers ((tick w core).now.objects i) ≡ page_numbers (w.now.objects i)
 
 -- Refused calls.
 

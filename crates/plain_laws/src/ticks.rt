@@ -15,7 +15,7 @@ ghost use Rattle.plain_model.specs.Refusals.{refusal_number};
 ghost use Rattle.plain_model.specs.Ticks.{Chosen, chosen, tick, touches, must_store};
 ghost use Rattle.plain_laws.specs.Places.{IsPlaced};
 ghost use Rattle.plain_laws.specs.Bounds.{HasThreads};
-ghost use Rattle.plain_laws.specs.Ticks.{ChangesOnly, KeepsPages, RefusedBy, IsRefused, OnlyAnswers, PassAtMost, IsAlike};
+ghost use Rattle.plain_laws.specs.Ticks.{ChangesOnly, KeepsPages, KeepsPageNumbers, RefusedBy, IsRefused, OnlyAnswers, PassAtMost, IsAlike};
 
 /// A refused call changes x10 and pc alone, and a number that names no call is refused so: those above 18. As a tick
 /// it changes of the thread also its state and its place, and of the world nothing else.
@@ -28,12 +28,13 @@ pub fn refused_call_answers_alone()
 {}
 
 /// A core that has no thread to run changes nothing. Else a tick changes only the thread, what its effect writes, the
-/// scheduler's queue and the core; and it keeps each page to which it doesn't store.
+/// scheduler's queue and the core; and it keeps each page to which it doesn't store, and the numbers of all.
 pub fn tick_changes_what_it_names()
     ensures idle { (w : World) (core : ℕ) → chosen w.now core ≡ None → tick w core ≡ w }
     ensures only { (w : World) (core : ℕ) (c : Chosen) → chosen w.now core ≡ Some c → ChangesOnly w core c }
     ensures pages { (w : World) (core : ℕ) (c : Chosen) → IsPlaced w.now
         → chosen w.now core ≡ Some c → KeepsPages w core c }
+    ensures numbers { (w : World) (core : ℕ) → IsPlaced w.now → KeepsPageNumbers w core }
 {}
 
 /// A tick touches at most 4 pages, and stores to at most 2 of them.
