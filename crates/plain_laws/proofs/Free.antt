@@ -1,7 +1,7 @@
 -- Numbers that are free.
 use Rattle.std.specs.Prelude.{◌≡◌, ℕ, zero, suc, ◌+◌, ◌<◌, ◌≤◌, Bool, true, false, not, List, [], ◌∷◌, length, filter, AllPairs, Contains, Option, Some, None, is_some, slice_index_or}
 use Rattle.std.specs.List.{range_with_len}
-use Rattle.std.proofs.Common.{refl, ap, arith, inl, inr}
+use Rattle.std.proofs.Common.{refl, ap, subst, arith, inl, inr}
 use Rattle.std.proofs.lemmas.Bool.{cases_eq, not-true, not-false}
 use Rattle.std.proofs.lemmas.List.Kept.{AllPairs-filter}
 use Rattle.std.proofs.lemmas.List.FromFn.{length-range_with_len, get_or-range_with_len}
@@ -95,6 +95,25 @@ least_free w l =
       saved = none_from (w.saved.objects (new_id w)) unused.1;
       least = λ i below. not-false (is_used_object w i) (first.before i (omega arith) below);
     }
+
+none_passes : (p : ℕ → Bool) (xs : List ℕ) → ((x : ℕ) → IsIn x xs → p x ≡ false) → filter p xs ≡ []
+none_passes p [] fails = refl
+none_passes p (x ∷ xs) fails = rw (fails x here) (none_passes p xs (λ y i. fails y (there i)))
+
+used_if : (w : World) (id : ℕ) (b : Bool) → is_used_object w id ≡ b → id < OBJECTS → free_objects w ≡ [] → b ≡ true
+unfolding free_objects every_object
+used_if w id true e below none = refl
+used_if w id false e below none =
+    let among : IsIn id (free_objects w) = stays_in (λ i. not (is_used_object w i)) every_object id (in_range 0 OBJECTS id (omega arith) (omega arith)) (ap not e) in
+    elim (subst (λ (l : List ℕ). IsIn id l) none among) [ ]
+
+pub all_used : (w : World) → free_objects w ≡ [] → (id : ℕ) → id < OBJECTS → is_used_object w id ≡ true
+all_used w none id below = used_if w id (is_used_object w id) refl below none
+
+pub no_object_free : (w : World) → ((id : ℕ) → id < OBJECTS → is_used_object w id ≡ true) → free_objects w ≡ []
+unfolding free_objects every_object
+no_object_free w used =
+    none_passes (λ i. not (is_used_object w i)) every_object (λ id i. ap not (used id (let below = range_in 0 OBJECTS id i in let l = below.1 in omega arith)))
 
 pub page_is_free : (w : World) (page : ℕ) → IsIn page (free_pages w) → IsFreePage w page
 unfolding free_pages every_page

@@ -7,7 +7,7 @@ ghost use Rattle.sls_base.specs.declared.image.Image.{Image};
 ghost use Rattle.sls_base.specs.declared.thread.ThreadState.{ThreadState};
 ghost use Rattle.plain_state.specs.declared.label.Label.{Label};
 ghost use Rattle.plain_model.specs.States.{State};
-ghost use Rattle.plain_model.specs.Worlds.{World, free_objects};
+ghost use Rattle.plain_model.specs.Worlds.{World, free_objects, is_used_object};
 ghost use Rattle.plain_model.specs.CallEffects.{new_id};
 ghost use Rattle.plain_model.specs.Ticks.{tick};
 ghost use Rattle.plain_model.specs.Sweep.{swept, is_reached};
@@ -55,10 +55,11 @@ pub fn cut_after_commit()
     ensures { (w : World) → cut (commit w) ≡ record (commit w) { now = record (commit w).now { inputs = [] } } }
 {}
 
-/// A new object takes the least number that neither state has, and the free pages are those of
-/// no object of either, all of them, rising.
+/// A new object takes the least number that neither state has, and there is none exactly where each of the 128 is one
+/// of an object in one of the states. The free pages are those of no object of either, all of them, rising.
 pub fn new_numbers_are_free()
     ensures object { (w : World) → 0 < length (free_objects w) → IsLeastFree w (new_id w) }
+    ensures no_object { (w : World) → (free_objects w ≡ []) ↔ ((id : ℕ) → id < OBJECTS → is_used_object w id ≡ true) }
     ensures pages { (w : World) → AreFreePages w }
 {}
 
