@@ -72,3 +72,4 @@ pub mod FewPages
 pub mod Unrefused
 pub mod PlacesBeside
 pub mod RunningStates
+mod Unchanged
