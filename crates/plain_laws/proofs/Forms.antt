@@ -1,6 +1,6 @@
 -- Forms of objects: each label of a world keeps them.
-use Rattle.std.specs.Prelude.{◌≡◌, ℕ, ◌-◌, ◌==◌, Bool, true, false, if◌then◌else◌, List, [], ◌∷◌, Option, Some, None, slice_index_or, option_map}
-use Rattle.std.proofs.Common.{refl, arith}
+use Rattle.std.specs.Prelude.{◌≡◌, ℕ, ◌-◌, ◌==◌, Bool, true, false, if◌then◌else◌, List, [], ◌∷◌, Option, Some, None, slice_index_or, option_map, filter}
+use Rattle.std.proofs.Common.{refl, ap, arith}
 use Rattle.std.proofs.lemmas.List.{length-set}
 use Rattle.sls_base.specs.declared.thread.Thread.{Thread as ThreadRecord}
 use Rattle.plain_state.specs.declared.effect.ByteStore.{ByteStore}
@@ -76,7 +76,7 @@ settled_form : (s : State) (o : Option Object) → HasForm o → HasForm (option
 settled_form s None h = h
 settled_form s (Some (Thread thread)) h = tt
 settled_form s (Some (Connection server client clients)) h = tt
-settled_form s (Some (Notification count waiters)) h = h
+settled_form s (Some (Notification count waiters)) h = (h.0, λ some. h.1 (λ none. some (ap (filter (is_reached s)) none)))
 settled_form s (Some o) h = h
 
 swept_form_if : (s : State) (i : ℕ) (b : Bool) → HasForm (s.objects i) → HasForm (if b then option_map (settled s) (s.objects i) else None)

@@ -154,15 +154,15 @@ left_form o p h = (omega arith, All-nil IsMapped, pairs_none IsBefore)
 
 signal_fits : (s : State) (thread : ThreadRecord) (note : ℕ) (o : Option Object) → HasForm o → is_full_count o ≡ false → ChangesFit (signal_effect s thread note o).changes
 signal_fits s thread note (Some (Notification count [])) h e =
-    let below : count < 2 ^ 32 = h in
+    let below : count < 2 ^ 32 = h.0 in
     let ne = eqb-false count (2 ^ 32 - 1) e in
-    (omega arith, tt)
-signal_fits s thread note (Some (Notification count (waiter ∷ waiters))) h e = (h, (tt, tt))
+    ((omega arith, λ some. absurd (some refl)), tt)
+signal_fits s thread note (Some (Notification count (waiter ∷ waiters))) h e = ((h.0, λ some. h.1 (λ none. absurd (cc))), (tt, tt))
 signal_fits s thread note o h e = tt
 
-wait_fits_if : (id : ℕ) (thread : ThreadRecord) (note count : ℕ) (waiters : List ℕ) (b : Bool) → (count == 0) ≡ b → count < 2 ^ 32 → ChangesFit (wait_effect id thread note (Some (Notification count waiters))).changes
-wait_fits_if id thread note count waiters true e h = rw e (omega arith, tt)
-wait_fits_if id thread note count waiters false e h = rw e (omega arith, tt)
+wait_fits_if : (id : ℕ) (thread : ThreadRecord) (note count : ℕ) (waiters : List ℕ) (b : Bool) → (count == 0) ≡ b → HasForm (Some (Notification count waiters)) → ChangesFit (wait_effect id thread note (Some (Notification count waiters))).changes
+wait_fits_if id thread note count waiters true e h = rw e ((omega arith, λ some. refl), tt)
+wait_fits_if id thread note count waiters false e h = rw e ((let below = h.0 in omega arith, λ some. (let none = h.1 some in omega arith)), tt)
 
 wait_fits : (id : ℕ) (thread : ThreadRecord) (note : ℕ) (o : Option Object) → HasForm o → ChangesFit (wait_effect id thread note o).changes
 wait_fits id thread note (Some (Notification count waiters)) h = wait_fits_if id thread note count waiters (count == 0) refl h
@@ -224,7 +224,7 @@ call_fit w id thread CapDrop h e =
     let unmet = or_false (not (is_kind GroupKind (named w.now thread 0))) false (not_refused w id thread CapDrop 1 WrongKind e refl).0 in
     (without_cap_form (named w.now thread 0) (arg thread 1) (h (id_named w.now thread 0)) (not-false (is_kind GroupKind (named w.now thread 0)) unmet.0), tt)
 call_fit w id thread ThreadNew h e = made_fit w thread (Thread (new_thread w.now thread)) h (slot_there w id thread ThreadNew e refl) tt
-call_fit w id thread NoteNew h e = made_fit w thread (Notification 0 []) h (slot_there w id thread NoteNew e refl) (omega arith)
+call_fit w id thread NoteNew h e = made_fit w thread (Notification 0 []) h (slot_there w id thread NoteNew e refl) (omega arith, λ some. refl)
 call_fit w id thread Signal h e = signal_fits w.now thread (id_named w.now thread 0) (named w.now thread 0) (h (id_named w.now thread 0)) (not_refused w id thread Signal 10 Full e refl).1
 call_fit w id thread Wait h e = wait_fits id thread (id_named w.now thread 0) (named w.now thread 0) (h (id_named w.now thread 0))
 call_fit w id thread ConnNew h e = made_fit w thread (Connection id None []) h (slot_there w id thread ConnNew e refl) tt

@@ -1,6 +1,6 @@
 -- What is sound of a state that a machine comes to: its objects keep their forms, what they name is there, and each
 -- page is of one object alone.
-use Rattle.std.specs.Prelude.{◌≡◌, ◌≢◌, ℕ, ◌+◌, ◌^◌, ◌<◌, ◌≤◌, true, length, All, AllPairs, Contains, Option, Some, None}
+use Rattle.std.specs.Prelude.{◌≡◌, ◌≢◌, ℕ, ◌+◌, ◌^◌, ◌<◌, ◌≤◌, true, [], length, All, AllPairs, Contains, Option, Some, None}
 use Rattle.sls_base.specs.declared.limits.TheConstants.{GROUP_SLOTS, SPACE_REGIONS, MEMORY_PAGES, ADDRESS_PAGES, OUTPUT_CHANNELS, PAGES}
 use Rattle.sls_base.specs.declared.rights.TheConstants.{ALL_RIGHTS, REGION_RIGHTS}
 use Rattle.plain_state.specs.declared.objects.Capability.{Capability}
@@ -28,12 +28,12 @@ abbrev pub IsBefore : Region → Region → Type 0
 IsBefore a b = a.base + a.count ≤ b.base
 
 -- a group has its slots, a space at most so many regions, by rising base and apart, and a memory object from 1 to 64
--- pages
+-- pages; a notification has a count of 32 bits, which is 0 where threads wait
 abbrev pub HasForm : Option Object → Type 0
 HasForm (Some (Group slots)) = (length slots ≡ GROUP_SLOTS) × All IsSlot slots
 HasForm (Some (Space regions)) = (length regions ≤ SPACE_REGIONS) × All IsMapped regions × AllPairs IsBefore regions
 HasForm (Some (Memory pages)) = (1 ≤ length pages) × (length pages ≤ MEMORY_PAGES)
-HasForm (Some (Notification count waiters)) = count < 2 ^ 32
+HasForm (Some (Notification count waiters)) = (count < 2 ^ 32) × (waiters ≢ [] → count ≡ 0)
 HasForm (Some (OutputRing channel)) = channel < OUTPUT_CHANNELS
 HasForm _ = Unit {0}
 

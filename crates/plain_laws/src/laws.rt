@@ -94,7 +94,8 @@ pub fn numbers_stay_in_range()
         → length (threads_in s place) ≤ OBJECTS }
 {}
 
-/// In every state that a machine comes to, groups, spaces, memory objects and notifications have their forms.
+/// In every state that a machine comes to, groups, spaces, memory objects and notifications have their forms. A
+/// notification on which threads wait has the count 0.
 pub fn objects_keep_their_forms()
     ensures first { (image : Image) (cores : ℕ) → IsAccepted image → HaveForms (initial image cores) }
     ensures kept { (w : World) (label : Label) → Both HaveForms w → Both HaveForms (after w label) }
