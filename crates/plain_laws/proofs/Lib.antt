@@ -73,3 +73,4 @@ pub mod Unrefused
 pub mod PlacesBeside
 pub mod RunningStates
 mod Unchanged
+mod SoundWorlds

@@ -80,13 +80,13 @@ changed_below (change ∷ changes) i h e = elim (or_cases (change.id == i) (list
 -- Ticks.
 
 -- what is known of a world at a tick
-pub record IsSound (w : World) : Type 0 where
+pub record IsSoundNow (w : World) : Type 0 where
   pub placed : IsPlaced w.now
   pub range : AreInRange w.now
   pub forms : HaveForms w.now
   pub names : NameWhatIs w.now
 
-pub tick_changes_there : (w : World) (core : ℕ) (c : Chosen) → IsSound w → chosen w.now core ≡ Some c → (i : ℕ) → is_changed_by c (effect_for w c) i ≡ true → i < OBJECTS
+pub tick_changes_there : (w : World) (core : ℕ) (c : Chosen) → IsSoundNow w → chosen w.now core ≡ Some c → (i : ℕ) → is_changed_by c (effect_for w c) i ≡ true → i < OBJECTS
 tick_changes_there w core c sound chose i h =
     let e = effect_for w c in
     let me = c.occupant.thread in
@@ -106,7 +106,7 @@ tick_changes_there w core c sound chose i h =
       ]
     ]
 
-pub tick_stores_there : (w : World) (core : ℕ) (c : Chosen) → IsSound w → (page : ℕ) → stores_to w.now (effect_for w c) page ≡ true → has_page w.now page ≡ true
+pub tick_stores_there : (w : World) (core : ℕ) (c : Chosen) → IsSoundNow w → (page : ℕ) → stores_to w.now (effect_for w c) page ≡ true → has_page w.now page ≡ true
 tick_stores_there w core c sound page h =
     let e = effect_for w c in
     let me = c.occupant.thread in
@@ -125,7 +125,7 @@ tick_as_saved w core c h i k page is unstored =
       | inr new ↦ inr new
     ]
 
-pub effect_tracked : (w : World) (core : ℕ) (c : Chosen) → IsSound w → chosen w.now core ≡ Some c → IsTracked w → IsTracked (world_of_effect w core c (effect_for w c))
+pub effect_tracked : (w : World) (core : ℕ) (c : Chosen) → IsSoundNow w → chosen w.now core ≡ Some c → IsTracked w → IsTracked (world_of_effect w core c (effect_for w c))
 effect_tracked w core c sound chose h =
     let e = effect_for w c in
     let no_scheduler : (w.changed SCHEDULER || is_changed_by c e SCHEDULER) ≡ false → ⊥ = λ f. (unchanged_by w c e SCHEDULER f).scheduler refl in
@@ -174,7 +174,7 @@ tracked_still w inputs released h = record {
   stored = h.stored;
 }
 
-pub tracked_after : (w : World) (label : Label) → IsSound w → IsTracked w → IsTracked (after w label)
+pub tracked_after : (w : World) (label : Label) → IsSoundNow w → IsTracked w → IsTracked (after w label)
 tracked_after w label sound h = kept_after IsTracked (λ label. Unit {0}) w (record {
   ticks = λ core c passes chose. effect_tracked w core c sound chose h;
   commits = λ passes. tracked_anew (commit w) (commit w).now.inputs;

@@ -7,3 +7,4 @@ pub mod Kept
 pub mod Ticks
 pub mod Laws
 pub mod OnePage
+pub mod Whole

@@ -10,3 +10,4 @@ pub mod fixed;
 pub mod kept;
 pub mod laws;
 pub mod ticks;
+pub mod whole;
