@@ -48,7 +48,7 @@ zeros_of_none content m page true reads past j = refl
 zeros_of_none content m page false reads past j = reads.none page j past
 
 -- the number on a page is that in one of its words
-pub number_of_page : (content : ℕ → ℕ → ℕ) (m : Memory) (page offset size : ℕ) → Reads content m → page < PAGES → is_page_home m page
+pub number_of_page : (content : ℕ → ℕ → ℕ) (m : Memory) (page offset size : ℕ) → Reads content m → page < PAGES → is_page_home m page ≡ true
     → offset < PAGE_BYTES → offset % 8 + size ≤ 8
     → number_in (content page) offset size ≡ number_in (byte_of (word_at m (frame_at (runtime_frame page) + offset / 8)).cached) (offset % 8) size
 number_of_page content m page offset size reads inside home within fits =

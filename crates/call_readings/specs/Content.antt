@@ -1,5 +1,5 @@
 -- Where the bytes of pages stand in the persistent memory, and the numbers in them.
-use Rattle.std.specs.Prelude.{◌≡◌, ℕ, ◌+◌, ◌/◌, ◌%◌, ◌<◌, ◌≤◌, true, map, slice_index}
+use Rattle.std.specs.Prelude.{◌≡◌, ℕ, ◌+◌, ◌/◌, ◌%◌, ◌<◌, ◌≤◌, Bool, true, map, slice_index}
 use Rattle.std.specs.List.{range_with_len}
 use Rattle.std.specs.Int.{w64, to_le_bytes}
 use Rattle.sls_base.specs.declared.limits.TheConstants.{PAGE_BYTES, PAGES}
@@ -13,13 +13,13 @@ abbrev pub byte_of : ℕ → ℕ → ℕ
 byte_of word k = slice_index (to_le_bytes w64 word) k
 
 -- the page's runtime frame is at home
-abbrev pub is_page_home : Memory → ℕ → Type 0
-is_page_home m page = is_frame_home m (runtime_frame page) ≡ true
+abbrev pub is_page_home : Memory → ℕ → Bool
+is_page_home m page = is_frame_home m (runtime_frame page)
 
 -- Page numbers stand for the bytes that the cached words of their runtime frames have, where these are at home. Behind
 -- its end a page has zeros, and so has each that there isn't.
 pub record Reads (content : ℕ → ℕ → ℕ) (m : Memory) : Type 0 where
-  pub home : (page offset : ℕ) → page < PAGES → offset < PAGE_BYTES → is_page_home m page
+  pub home : (page offset : ℕ) → page < PAGES → offset < PAGE_BYTES → is_page_home m page ≡ true
       → content page offset
       ≡ byte_of (word_at m (frame_at (runtime_frame page) + offset / WORD_BYTES)).cached (offset % WORD_BYTES)
   pub end : (page offset : ℕ) → PAGE_BYTES ≤ offset → content page offset ≡ 0

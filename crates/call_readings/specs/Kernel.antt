@@ -1,6 +1,8 @@
 -- Of which world the running kernel's values are.
 use Rattle.std.specs.Prelude.{◌≡◌, ◌≢◌, ℕ, ◌<◌, ◌≤◌, length, option_map, slice_get, slice_index}
 use Rattle.sls_base.specs.declared.limits.TheConstants.{OUTPUT_CHANNELS}
+use Rattle.pmem_model.specs.Memory.{Memory}
+use Rattle.plain_laws.specs.Bounds.{HasThreads}
 use Rattle.plain_model.specs.Worlds.{World, is_used_object, is_used_page, put_count, accepted_count}
 use Rattle.kobj_table.specs.declared.slot.Slot.{Slot}
 use Rattle.kobj_table.specs.declared.slot.Slot.TheVariants as slots
@@ -8,6 +10,7 @@ use Rattle.kobj_table.specs.declared.objects.Objects.{Objects}
 use Rattle.kobj_table.specs.Objects.{Rest, slot_at, state_of}
 use Rattle.call_readings.specs.declared.numbers.NumbersInUse.{NumbersInUse}
 use Rattle.call_readings.specs.declared.devices.Devices.{Devices}
+use Rattle.call_readings.specs.Content.{Reads}
 use Rattle.call_readings.specs.NumberSets.{uses_object, uses_page}
 
 -- a world whose running state is that of the objects
@@ -31,3 +34,10 @@ pub record IsAttached (o : Objects) (devices : Devices) (w : World) : Type 0 whe
   pub accepted : (channel : ℕ) → channel < OUTPUT_CHANNELS
       → slice_index devices.accepted channel ≡ accepted_count w channel
   pub input : devices.first_input ≡ option_map length (slice_get w.now.inputs 0)
+
+-- What a tick finds is a world's: beside that, the pages' bytes, and threads each at the address of an instruction.
+pub record IsOfWorld (o : Objects) (numbers : NumbersInUse) (devices : Devices) (m : Memory) (rest : Rest) (w : World) : Type 0 where
+  pub counted : IsCounted numbers (world_of o rest w)
+  pub attached : IsAttached o devices (world_of o rest w)
+  pub content : Reads rest.content m
+  pub threads : HasThreads (state_of o rest)

@@ -1,5 +1,5 @@
 -- The pages that the next tick of a core needs.
-use Rattle.std.specs.Prelude.{◌≡◌, ℕ, ◌<◌, ◌==◌, Bool, List, Option, Some, None, option_map}
+use Rattle.std.specs.Prelude.{◌≡◌, ℕ, ◌<◌, ◌==◌, ◌||◌, Bool, true, List, Option, Some, None, option_map}
 use Rattle.std.specs.List.{list_any}
 use Rattle.sls_base.specs.declared.limits.TheConstants.{PAGES}
 use Rattle.sls_base.specs.declared.rights.TheConstants.{EXECUTE}
@@ -8,7 +8,8 @@ use Rattle.pmem_model.specs.Memory.{Memory}
 use Rattle.plain_model.specs.States.{State, thread_at}
 use Rattle.plain_model.specs.Memory.{page_at, place_of}
 use Rattle.plain_model.specs.Instructions.{seen_by}
-use Rattle.plain_model.specs.Ticks.{Chosen, chosen}
+use Rattle.plain_model.specs.Effects.{Effect}
+use Rattle.plain_model.specs.Ticks.{Chosen, chosen, loads_from, stores_to}
 use Rattle.call_readings.specs.Content.{is_page_home}
 
 -- a list of pages has a page
@@ -28,6 +29,10 @@ fetched_of s (Some c) = page_of_pc s (thread_at s c.occupant.thread)
 abbrev pub page_fetched : State → ℕ → Option ℕ
 page_fetched s core = fetched_of s (chosen s core)
 
--- that page is at home
-abbrev pub IsFetchHome : State → ℕ → Memory → Type 0
-IsFetchHome s core m = (page : ℕ) → page_fetched s core ≡ Some page → page < PAGES → is_page_home m page
+-- that page is at home, if there is one
+abbrev pub IsAtHome : Memory → Option ℕ → Type 0
+IsAtHome m from = (page : ℕ) → from ≡ Some page → page < PAGES → is_page_home m page ≡ true
+
+-- an effect loads from a page or stores to it
+abbrev pub reaches_page : State → Effect → ℕ → Bool
+reaches_page s e page = loads_from s e page || stores_to s e page

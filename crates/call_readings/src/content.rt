@@ -2,8 +2,6 @@
 
 ghost use Rattle.std.specs.Prelude.{◌≡◌, ℕ, ◌+◌, ◌%◌, ◌<◌, ◌≤◌, true};
 ghost use Rattle.sls_base.specs.declared.limits.TheConstants.{PAGE_BYTES, PAGES};
-ghost use Rattle.pmem_model.specs.Memory.{is_frame_home};
-ghost use Rattle.pmem_layout.specs.Places as places;
 ghost use Rattle.kobj_table.specs.Slots.{bytes_of};
 ghost use Rattle.call_readings.specs.Content.{byte_of, is_page_home, number_in, Reads};
 
@@ -17,7 +15,7 @@ pub const WORD_BYTES: u32 = 8;
 
 /// Whether the runtime frame of a page is at home. One that there isn't has none that could be away.
 pub(crate) fn is_home(nvm: &Pmem, page: PageNo) -> bool
-    ensures home { page < PAGES → result ≡ is_frame_home nvm.now (places.runtime_frame page) }
+    ensures home { page < PAGES → result ≡ is_page_home nvm.now page }
     ensures past { PAGES ≤ page → result ≡ true }
 {
     usize::from(page) >= PAGES || nvm.is_home(runtime_frame(page))
@@ -36,7 +34,7 @@ fn number_in_word(word: u64, k: u32, size: u32) -> u32
 pub fn number_on_page(nvm: &Pmem, page: MemPage, offset: u32, size: u32) -> u32
     requires size { (1 ≤ size) × (size ≤ 4) }
     requires offset { offset < PAGE_BYTES }
-    requires home { page.page < PAGES → is_page_home nvm.now page.page }
+    requires home { page.page < PAGES → is_page_home nvm.now page.page ≡ true }
     ensures { (content : ℕ → ℕ → ℕ) → Reads content nvm.now → offset % WORD_BYTES + size ≤ WORD_BYTES
         → result ≡ number_in (bytes_of content page.page page.fresh) offset size }
 {

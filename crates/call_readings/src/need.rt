@@ -1,24 +1,20 @@
 //! The pages that the next tick of a core needs.
 
-ghost use Rattle.std.specs.Prelude.{◌≡◌, ◌≢◌, ◌%◌, ◌<◌, ◌≤◌, ◌||◌, false, ℕ, [], ◌∷◌, length, AllPairs, Some, option_map};
+ghost use Rattle.std.specs.Prelude.{◌≡◌, ◌≢◌, ◌%◌, ◌<◌, ◌≤◌, ◌||◌, true, false, ℕ, [], ◌∷◌, length, AllPairs, Some, option_map};
 ghost use Rattle.arrayvec.specs.ArrayVec.{array_vec_len};
 ghost use Rattle.sls_base.specs.declared.limits.TheConstants.{CORES, INSTRUCTION_BYTES, PAGE_BYTES, PAGES};
 ghost use Rattle.sls_base.specs.declared.fixed.TheConstants.{SCHEDULER};
-ghost use Rattle.sls_base.specs.declared.thread.Thread.{Thread as ThreadRecord};
-ghost use Rattle.pmem_model.specs.Memory.{is_frame_home};
-ghost use Rattle.pmem_layout.specs.Places as places;
 ghost use Rattle.plain_model.specs.States.{thread_at};
 ghost use Rattle.plain_model.specs.Worlds.{World};
 ghost use Rattle.plain_model.specs.Effects.{Effect};
 ghost use Rattle.plain_model.specs.Instructions as plain;
 ghost use Rattle.plain_model.specs.Ticks as ticks;
-ghost use Rattle.plain_laws.specs.Bounds.{HasThreads};
 ghost use Rattle.kobj_table.specs.Slots.{bytes_of, cores_of};
 ghost use Rattle.kobj_table.specs.Objects.{Rest, slot_at, state_of};
-ghost use Rattle.call_readings.specs.Kernel.{IsCounted, IsAttached, world_of};
+ghost use Rattle.call_readings.specs.Kernel.{IsCounted, IsAttached, IsOfWorld, world_of};
 ghost use Rattle.call_readings.specs.Content.{is_page_home, number_in, Reads};
 ghost use Rattle.call_readings.specs.Reach.{IsReach};
-ghost use Rattle.call_readings.specs.Need.{has_page, page_of_pc, page_fetched, IsFetchHome};
+ghost use Rattle.call_readings.specs.Need.{has_page, page_of_pc, page_fetched, reaches_page, IsAtHome};
 
 use crate::content::{is_home, number_on_page};
 use crate::devices::Devices;
@@ -45,7 +41,8 @@ pub struct Need {
 fn next_thread(objects: &Objects, core: CoreNo) -> Option<ObjId>
     requires range { core < CORES }
     requires core { core < length (cores_of (slot_at objects.now SCHEDULER)) }
-    ensures { (rest : Rest) → result ≡ option_map (λ c. c.occupant.thread) (ticks.chosen (state_of objects.now rest) core) }
+    ensures { (rest : Rest) → result
+        ≡ option_map (λ c. c.occupant.thread) (ticks.chosen (state_of objects.now rest) core) }
 {
     match objects.running(core) {
         Some((thread, _)) => Some(thread),
@@ -73,8 +70,8 @@ impl Need {
         requires touched { array_vec_len self.old.touched ≤ 1 }
         requires stored { self.old.stored.items ≡ [] }
         ensures touched { (rest : Rest) (e : Effect) (page : ℕ) → IsReach (state_of objects.now rest) thread.now reach e
-            → has_page self.new.touched.items page ≡ (has_page self.old.touched.items page
-            || (ticks.loads_from (state_of objects.now rest) e page || ticks.stores_to (state_of objects.now rest) e page)) }
+            → has_page self.new.touched.items page
+            ≡ (has_page self.old.touched.items page || reaches_page (state_of objects.now rest) e page) }
         ensures stored { (rest : Rest) (e : Effect) (page : ℕ) → IsReach (state_of objects.now rest) thread.now reach e
             → has_page self.new.stored.items page ≡ ticks.stores_to (state_of objects.now rest) e page }
         ensures touched_once { AllPairs (λ p q. p ≢ q) self.old.touched.items
@@ -100,15 +97,15 @@ impl Need {
 
 /// The instruction at the pc of a thread, which stands on a page.
 fn fetch(nvm: &Pmem, page: MemPage, thread: &Thread) -> u32
-    requires home { page.page < PAGES → is_page_home nvm.now page.page }
+    requires home { page.page < PAGES → is_page_home nvm.now page.page ≡ true }
     ensures { (content : ℕ → ℕ → ℕ) → Reads content nvm.now → thread.now.pc % INSTRUCTION_BYTES ≡ 0
         → result ≡ number_in (bytes_of content page.page page.fresh) (thread.now.pc % PAGE_BYTES) INSTRUCTION_BYTES }
 {
     number_on_page(nvm, page, thread.pc % PAGE_BYTES as u32, INSTRUCTION_BYTES)
 }
 
-/// The pages that the next instruction of a thread needs. Where the page that it is fetched from isn't at home, that page
-/// alone is told.
+/// The pages that the next instruction of a thread needs. Where the page that it is fetched from isn't at home, that
+/// page alone is told.
 fn need_of_thread(
     objects: &Objects,
     numbers: &NumbersInUse,
@@ -120,18 +117,17 @@ fn need_of_thread(
     ensures touched { (w : World) (rest : Rest) (page : ℕ) → IsCounted numbers.now (world_of objects.now rest w)
         → IsAttached objects.now devices.now (world_of objects.now rest w) → Reads rest.content nvm.now
         → thread.now.pc % INSTRUCTION_BYTES ≡ 0
-        → ((from : ℕ) → page_of_pc (state_of objects.now rest) thread.now ≡ Some from → from < PAGES → is_page_home nvm.now from)
-        → has_page result.touched.items page
-        ≡ (ticks.loads_from (state_of objects.now rest) (plain.instruction (world_of objects.now rest w) me thread.now) page
-        || ticks.stores_to (state_of objects.now rest) (plain.instruction (world_of objects.now rest w) me thread.now) page) }
+        → IsAtHome nvm.now (page_of_pc (state_of objects.now rest) thread.now)
+        → has_page result.touched.items page ≡ reaches_page (state_of objects.now rest)
+        (plain.instruction (world_of objects.now rest w) me thread.now) page }
     ensures stored { (w : World) (rest : Rest) (page : ℕ) → IsCounted numbers.now (world_of objects.now rest w)
         → IsAttached objects.now devices.now (world_of objects.now rest w) → Reads rest.content nvm.now
         → thread.now.pc % INSTRUCTION_BYTES ≡ 0
-        → ((from : ℕ) → page_of_pc (state_of objects.now rest) thread.now ≡ Some from → from < PAGES → is_page_home nvm.now from)
-        → has_page result.stored.items page
-        ≡ ticks.stores_to (state_of objects.now rest) (plain.instruction (world_of objects.now rest w) me thread.now) page }
-    ensures away { (rest : Rest) (from : ℕ) → page_of_pc (state_of objects.now rest) thread.now ≡ Some from → from < PAGES
-        → is_frame_home nvm.now (places.runtime_frame from) ≡ false
+        → IsAtHome nvm.now (page_of_pc (state_of objects.now rest) thread.now)
+        → has_page result.stored.items page ≡ ticks.stores_to (state_of objects.now rest)
+        (plain.instruction (world_of objects.now rest w) me thread.now) page }
+    ensures away { (rest : Rest) (from : ℕ) → page_of_pc (state_of objects.now rest) thread.now ≡ Some from
+        → from < PAGES → is_page_home nvm.now from ≡ false
         → (result.touched.items ≡ from ∷ []) × (result.stored.items ≡ []) }
     ensures touched_once { AllPairs (λ p q. p ≢ q) result.touched.items }
     ensures stored_once { AllPairs (λ p q. p ≢ q) result.stored.items }
@@ -160,16 +156,17 @@ pub fn need_of_core(
 ) -> Need
     requires range { core < CORES }
     requires core { core < length (cores_of (slot_at objects.now SCHEDULER)) }
-    ensures touched { (w : World) (rest : Rest) (page : ℕ) → IsCounted numbers.now (world_of objects.now rest w)
-        → IsAttached objects.now devices.now (world_of objects.now rest w) → Reads rest.content nvm.now
-        → HasThreads (state_of objects.now rest) → IsFetchHome (state_of objects.now rest) core nvm.now
+    // Where the page that is fetched from is at home, the pages are exactly those of the world's next tick.
+    ensures touched { (w : World) (rest : Rest) (page : ℕ)
+        → IsOfWorld objects.now numbers.now devices.now nvm.now rest w
+        → IsAtHome nvm.now (page_fetched (state_of objects.now rest) core)
         → has_page result.touched.items page ≡ ticks.touches (world_of objects.now rest w) core page }
-    ensures stored { (w : World) (rest : Rest) (page : ℕ) → IsCounted numbers.now (world_of objects.now rest w)
-        → IsAttached objects.now devices.now (world_of objects.now rest w) → Reads rest.content nvm.now
-        → HasThreads (state_of objects.now rest) → IsFetchHome (state_of objects.now rest) core nvm.now
+    ensures stored { (w : World) (rest : Rest) (page : ℕ)
+        → IsOfWorld objects.now numbers.now devices.now nvm.now rest w
+        → IsAtHome nvm.now (page_fetched (state_of objects.now rest) core)
         → has_page result.stored.items page ≡ ticks.must_store (world_of objects.now rest w) core page }
-    ensures away { (rest : Rest) (from : ℕ) → page_fetched (state_of objects.now rest) core ≡ Some from → from < PAGES
-        → is_frame_home nvm.now (places.runtime_frame from) ≡ false
+    ensures away { (rest : Rest) (from : ℕ) → page_fetched (state_of objects.now rest) core ≡ Some from
+        → from < PAGES → is_page_home nvm.now from ≡ false
         → (result.touched.items ≡ from ∷ []) × (result.stored.items ≡ []) }
     ensures touched_once { AllPairs (λ p q. p ≢ q) result.touched.items }
     ensures stored_once { AllPairs (λ p q. p ≢ q) result.stored.items }

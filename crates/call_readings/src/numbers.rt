@@ -1,11 +1,11 @@
 //! The numbers in use.
 
-ghost use Rattle.std.specs.Prelude.{◌≡◌, ◌==◌, ◌||◌, ◌*◌, ◌<◌, ◌≤◌, ℕ, List, false, filter, find, not, length, slice_get, IfSome};
+ghost use Rattle.std.specs.Prelude.{◌≡◌, ◌==◌, ◌||◌, ◌*◌, ◌<◌, ◌≤◌, ℕ, false, not, filter, find, length, slice_get, IfSome};
 ghost use Rattle.std.specs.List.{range_with_len};
 ghost use Rattle.sls_base.specs.declared.limits.TheConstants.{OBJECTS, PAGES};
 ghost use Rattle.pmem_layout.specs.declared.places.TheConstants.{BASE_BITS};
 ghost use Rattle.plain_model.specs.Worlds as worlds;
-ghost use Rattle.plain_model.specs.CallEffects as plain;
+ghost use Rattle.plain_model.specs.Objects.{every_object, every_page};
 ghost use Rattle.call_readings.specs.NumberSets as sets;
 
 use pmem_layout::{BASE_BITS, is_in_base, with_bit};
@@ -46,7 +46,8 @@ fn least_absent(words: &[u64]) -> Option<usize>
     requires few { length words.now ≤ PAGE_WORDS }
     ensures range { IfSome result (λ number. number < BASE_BITS * length words.now) }
     ensures absent { IfSome result (λ number. sets.is_in words.now number ≡ false) }
-    ensures least { result ≡ find (λ number. not (sets.is_in words.now number)) (range_with_len 0 (BASE_BITS * length words.now)) }
+    ensures least { result
+        ≡ find (λ number. not (sets.is_in words.now number)) (range_with_len 0 (BASE_BITS * length words.now)) }
 {
     for (place, word) in words.iter().enumerate() {
         if *word != u64::MAX {
@@ -59,8 +60,8 @@ fn least_absent(words: &[u64]) -> Option<usize>
 /// How many numbers are not in a set.
 fn count_of_absent(words: &[u64]) -> usize
     requires few { length words.now ≤ PAGE_WORDS }
-    ensures { result
-        ≡ length (filter (λ number. not (sets.is_in words.now number)) (range_with_len 0 (BASE_BITS * length words.now))) }
+    ensures { result ≡ length (filter (λ number. not (sets.is_in words.now number))
+        (range_with_len 0 (BASE_BITS * length words.now))) }
 {
     let mut count = 0;
     for word in words {
@@ -121,6 +122,7 @@ impl NumbersInUse {
     /// use.
     pub fn least_free_object(&self) -> Option<ObjId>
         ensures least { (w : World) → IsCounted self.now w → result ≡ slice_get (worlds.free_objects w) 0 }
+        ensures first { result ≡ find (λ id. not (uses_object self.now id)) every_object }
         ensures range { IfSome result (λ id. id < OBJECTS) }
         ensures free { IfSome result (λ id. uses_object self.now id ≡ false) }
     {
@@ -133,6 +135,7 @@ impl NumbersInUse {
     /// The least number of a page that is free. It is None exactly where all are in use.
     pub fn least_free_page(&self) -> Option<PageNo>
         ensures least { (w : World) → IsCounted self.now w → result ≡ slice_get (worlds.free_pages w) 0 }
+        ensures first { result ≡ find (λ page. not (uses_page self.now page)) every_page }
         ensures range { IfSome result (λ page. page < PAGES) }
         ensures free { IfSome result (λ page. uses_page self.now page ≡ false) }
     {

@@ -37,7 +37,8 @@ fn page_in(objects: &Objects, region: &Region, at: u64) -> MemPage
     }
 }
 
-/// The page on which the byte at an address stands, by the first region of a space that covers the address with a right.
+/// The page on which the byte at an address stands, by the first region of a space that covers the address with a
+/// right.
 pub fn page_at(objects: &Objects, space: ObjId, right: u8, at: u64) -> Option<MemPage>
     ensures { (content : ℕ → ℕ → ℕ) → option_map (page_of content) result
         ≡ option_map (memory.page_at (object_at content objects.now))

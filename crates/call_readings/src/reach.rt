@@ -23,8 +23,8 @@ use rv_core::{Plan, Regs, access_size, plan};
 use rv_table::decode;
 use sls_base::{OUTPUT_CHANNELS, ObjId, READ, Thread, WRITE};
 
-/// What an instruction reaches beside its own bytes: nothing, the bytes that it loads, those that it stores, or those that
-/// it puts as an entry on a channel.
+/// What an instruction reaches beside its own bytes: nothing, the bytes that it loads, those that it stores, or those
+/// that it puts as an entry on a channel.
 #[derive(Clone, Copy)]
 pub enum Reach {
     Nothing,

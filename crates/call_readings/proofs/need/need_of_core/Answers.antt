@@ -1,4 +1,4 @@
-use Rattle.std.proofs.Common.{◌≡◌, ◌∙◌, ◌%◌, ◌<◌, ℕ, Some, None, ap, sym}
+use Rattle.std.proofs.Common.{true, ◌≡◌, ◌∙◌, ◌%◌, ◌<◌, ℕ, Some, None, ap, sym}
 use Rattle.std.specs.Prelude.{◌||◌, option_map}
 use Rattle.sls_base.specs.declared.limits.TheConstants.{INSTRUCTION_BYTES, PAGES}
 use Rattle.sls_base.specs.declared.thread.Thread.{Thread}
@@ -14,39 +14,39 @@ use Rattle.call_readings.proofs.need.need_of_core.Goals as goal
 
 pub returns-in-Some-clause-touched : goal.returns-in-Some-clause-touched
 unfolding world_of
-returns-in-Some-clause-touched c w rest page counted attached reads threads home =
+returns-in-Some-clause-touched c w rest page is home =
     let world = world_of c.args.objects.now rest w in
     let s = state_of c.args.objects.now rest in
     let me = c.in-Some.me in
     let thread = c.thread_or_zeros.result in
-    let is : thread ≡ thread_at s me = c.thread_or_zeros.ensures rest in
+    let same : thread ≡ thread_at s me = c.thread_or_zeros.ensures rest in
     let next : Some me ≡ option_map (λ (c : Chosen). c.occupant.thread) (chosen s c.args.core) = sym c.in-Some.is ∙ c.next_thread.ensures rest in
-    let aligned : thread.pc % INSTRUCTION_BYTES ≡ 0 = ap (λ (t : Thread). t.pc % INSTRUCTION_BYTES) is ∙ aligned_at s me threads in
-    let from_home : (from : ℕ) → page_of_pc s thread ≡ Some from → from < PAGES → is_page_home c.args.nvm.now from =
-    λ from e inside. home from (sym (fetched_by s me (chosen s c.args.core) next) ∙ sym (ap (page_of_pc s) is) ∙ e) inside in
-    c.need_of_thread.ensures.touched w rest page counted attached reads aligned from_home
-    ∙ ap (λ (t : Thread). loads_from s (instruction world me t) page || stores_to s (instruction world me t) page) is
+    let aligned : thread.pc % INSTRUCTION_BYTES ≡ 0 = ap (λ (t : Thread). t.pc % INSTRUCTION_BYTES) same ∙ aligned_at s me is.threads in
+    let from_home : (from : ℕ) → page_of_pc s thread ≡ Some from → from < PAGES → is_page_home c.args.nvm.now from ≡ true =
+    λ from e inside. home from (sym (fetched_by s me (chosen s c.args.core) next) ∙ sym (ap (page_of_pc s) same) ∙ e) inside in
+    c.need_of_thread.ensures.touched w rest page is.counted is.attached is.content aligned from_home
+    ∙ ap (λ (t : Thread). loads_from s (instruction world me t) page || stores_to s (instruction world me t) page) same
     ∙ touches_by world me page (chosen s c.args.core) next
 
 pub returns-in-Some-clause-stored : goal.returns-in-Some-clause-stored
 unfolding world_of
-returns-in-Some-clause-stored c w rest page counted attached reads threads home =
+returns-in-Some-clause-stored c w rest page is home =
     let world = world_of c.args.objects.now rest w in
     let s = state_of c.args.objects.now rest in
     let me = c.in-Some.me in
     let thread = c.thread_or_zeros.result in
-    let is : thread ≡ thread_at s me = c.thread_or_zeros.ensures rest in
+    let same : thread ≡ thread_at s me = c.thread_or_zeros.ensures rest in
     let next : Some me ≡ option_map (λ (c : Chosen). c.occupant.thread) (chosen s c.args.core) = sym c.in-Some.is ∙ c.next_thread.ensures rest in
-    let aligned : thread.pc % INSTRUCTION_BYTES ≡ 0 = ap (λ (t : Thread). t.pc % INSTRUCTION_BYTES) is ∙ aligned_at s me threads in
-    let from_home : (from : ℕ) → page_of_pc s thread ≡ Some from → from < PAGES → is_page_home c.args.nvm.now from =
-    λ from e inside. home from (sym (fetched_by s me (chosen s c.args.core) next) ∙ sym (ap (page_of_pc s) is) ∙ e) inside in
-    c.need_of_thread.ensures.stored w rest page counted attached reads aligned from_home
-    ∙ ap (λ (t : Thread). stores_to s (instruction world me t) page) is
+    let aligned : thread.pc % INSTRUCTION_BYTES ≡ 0 = ap (λ (t : Thread). t.pc % INSTRUCTION_BYTES) same ∙ aligned_at s me is.threads in
+    let from_home : (from : ℕ) → page_of_pc s thread ≡ Some from → from < PAGES → is_page_home c.args.nvm.now from ≡ true =
+    λ from e inside. home from (sym (fetched_by s me (chosen s c.args.core) next) ∙ sym (ap (page_of_pc s) same) ∙ e) inside in
+    c.need_of_thread.ensures.stored w rest page is.counted is.attached is.content aligned from_home
+    ∙ ap (λ (t : Thread). stores_to s (instruction world me t) page) same
     ∙ stores_by world me page (chosen s c.args.core) next
 
 pub returns-in-None-clause-touched : goal.returns-in-None-clause-touched
 unfolding world_of
-returns-in-None-clause-touched c w rest page counted attached reads threads home =
+returns-in-None-clause-touched c w rest page is home =
     let world = world_of c.args.objects.now rest w in
     let s = state_of c.args.objects.now rest in
     let next : None ≡ option_map (λ (c : Chosen). c.occupant.thread) (chosen s c.args.core) = sym c.in-None.is ∙ c.next_thread.ensures rest in
@@ -54,7 +54,7 @@ returns-in-None-clause-touched c w rest page counted attached reads threads home
 
 pub returns-in-None-clause-stored : goal.returns-in-None-clause-stored
 unfolding world_of
-returns-in-None-clause-stored c w rest page counted attached reads threads home =
+returns-in-None-clause-stored c w rest page is home =
     let world = world_of c.args.objects.now rest w in
     let s = state_of c.args.objects.now rest in
     let next : None ≡ option_map (λ (c : Chosen). c.occupant.thread) (chosen s c.args.core) = sym c.in-None.is ∙ c.next_thread.ensures rest in

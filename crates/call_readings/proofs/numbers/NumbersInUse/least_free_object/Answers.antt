@@ -7,20 +7,28 @@ use Rattle.call_readings.specs.NumberSets.{is_in}
 use Rattle.call_readings.proofs.Members.{least_of_free}
 use Rattle.call_readings.proofs.numbers.NumbersInUse.least_free_object.Goals as goal
 
-pub returns-in-Some-clause-least : goal.returns-in-Some-clause-least
-unfolding free_objects every_object
-returns-in-Some-clause-least c w counted =
+pub returns-in-Some-clause-first : goal.returns-in-Some-clause-first
+unfolding every_object
+returns-in-Some-clause-first c =
     let words = c.args.self.now.objects in
     let all : 64 * length words ≡ 128 = omega arith in
     let least : Some c.in-Some.id ≡ find (λ number. not (is_in words number)) (range_with_len 0 (64 * length words)) = search rules in
-    least_of_free words (is_used_object w) every_object _ counted.objects
-    (least ∙ ap (λ (n : ℕ). find (λ number. not (is_in words number)) (range_with_len 0 n)) all)
+    least ∙ ap (λ (n : ℕ). find (λ number. not (is_in words number)) (range_with_len 0 n)) all
 
-pub returns-in-None-clause-least : goal.returns-in-None-clause-least
-unfolding free_objects every_object
-returns-in-None-clause-least c w counted =
+pub returns-in-None-clause-first : goal.returns-in-None-clause-first
+unfolding every_object
+returns-in-None-clause-first c =
     let words = c.args.self.now.objects in
     let all : 64 * length words ≡ 128 = omega arith in
     let least : None ≡ find (λ number. not (is_in words number)) (range_with_len 0 (64 * length words)) = search rules in
-    least_of_free words (is_used_object w) every_object _ counted.objects
-    (least ∙ ap (λ (n : ℕ). find (λ number. not (is_in words number)) (range_with_len 0 n)) all)
+    least ∙ ap (λ (n : ℕ). find (λ number. not (is_in words number)) (range_with_len 0 n)) all
+
+pub returns-in-Some-clause-least : goal.returns-in-Some-clause-least
+unfolding free_objects
+returns-in-Some-clause-least c w counted =
+    least_of_free c.args.self.now.objects (is_used_object w) every_object _ counted.objects (returns-in-Some-clause-first c)
+
+pub returns-in-None-clause-least : goal.returns-in-None-clause-least
+unfolding free_objects
+returns-in-None-clause-least c w counted =
+    least_of_free c.args.self.now.objects (is_used_object w) every_object _ counted.objects (returns-in-None-clause-first c)
