@@ -21,3 +21,6 @@ pub use pages::page_at;
 pub use reach::{Reach, reach_of};
 pub use refusals::refusal_of;
 pub use regions::{is_covered, region_at};
+
+#[cfg(test)]
+mod tests;

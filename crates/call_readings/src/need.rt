@@ -106,7 +106,7 @@ fn fetch(nvm: &Pmem, page: MemPage, thread: &Thread) -> u32
 
 /// The pages that the next instruction of a thread needs. Where the page that it is fetched from isn't at home, that
 /// page alone is told.
-fn need_of_thread(
+pub(crate) fn need_of_thread(
     objects: &Objects,
     numbers: &NumbersInUse,
     devices: &Devices,
