@@ -5,8 +5,8 @@ ghost use Rattle.sls_io.specs.Faults.{Rose};
 ghost use Rattle.sls_io.specs.Sink.{AppendsPrefix, wants_after};
 
 use sls_io::{
-    Failed, Found, MemShelf, MemSink, MemSource, ReadError, Shelf, ShelfError, Sink, SinkError, Source, StdSink, StdSource,
-    read_to_end,
+    Failed, Found, MemShelf, MemSink, MemSource, ReadError, Shelf, ShelfError, Sink, SinkError,
+    Source, StdSink, StdSource, read_to_end,
 };
 use std::io;
 use std::io::{ErrorKind, Read, Write};
