@@ -1,0 +1,6 @@
+pub mod SetLemmas
+pub mod Words
+pub mod RedoLemmas
+pub mod ShowLemmas
+pub mod LogSteps
+pub mod RedoSteps

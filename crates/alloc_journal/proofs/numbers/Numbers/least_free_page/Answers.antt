@@ -1,0 +1,17 @@
+use Rattle.std.proofs.Common.{◌≡◌, ◌+◌, ◌-◌, ◌∙◌, ap, subst, sym, not, true, arith}
+use Rattle.sls_base.specs.declared.limits.TheConstants.{OBJECTS}
+use Rattle.alloc_journal.specs.Work.{InUse, is_used}
+use Rattle.alloc_journal.proofs.numbers.Numbers.least_free_page.Goals as goal
+
+pub returns-clause-none : goal.returns-clause-none
+returns-clause-none c =
+    let found = c.in_ok-number.ensures.found in
+    let number = c.in_ok-number.number in
+    let low = found.0 in let high = found.1 in
+    let at : OBJECTS + (number - OBJECTS) ≡ number = omega (arith, low) in (
+      λ no. cc,
+      λ all.
+          let used = subst (λ n. is_used c.args.self.now n ≡ true) at (all (number - OBJECTS) (omega (arith, low, high))) in
+          let here = subst (λ (u : InUse). is_used u number ≡ true) (sym c.self.view_is) used in
+          sym found.2 ∙ c.neither-free.ensures number high ∙ ap not here,
+    )

@@ -1,0 +1,5 @@
+pub mod Sets
+pub mod Format
+pub mod Says
+pub mod Work
+pub mod Shows

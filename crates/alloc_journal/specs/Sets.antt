@@ -1,0 +1,17 @@
+-- Sets of numbers in words, 64 a word.
+use Rattle.std.specs.Prelude.{ℕ, ◌/◌, ◌%◌, ◌==◌, Bool, true, false, not, List, slice_index}
+use Rattle.std.specs.Int.{bit_at}
+use Rattle.pmem_layout.specs.declared.places.TheConstants.{BASE_BITS}
+
+-- whether the bit of a number is set in its word
+abbrev pub bit_of : ℕ → ℕ → Bool
+bit_of word n = bit_at word (n % BASE_BITS) == 1
+
+-- whether a set has a number
+abbrev pub has : List ℕ → ℕ → Bool
+has words n = bit_of (slice_index words (n / BASE_BITS)) n
+
+-- whether one of two is so, and not the other
+abbrev pub differ : Bool → Bool → Bool
+differ true other = not other
+differ false other = other

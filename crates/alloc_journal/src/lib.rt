@@ -1,0 +1,12 @@
+//! The numbers of objects and pages that are in use, in the persistent memory: a base, and a log that is redone where its
+//! head names the committed version.
+#![tactic(auto)]
+
+mod bits;
+mod entry;
+mod journal;
+pub mod laws;
+mod memory;
+mod numbers;
+
+pub use numbers::Numbers;

@@ -1,0 +1,54 @@
+//! One operation on the table of the memory each, by the core that leads a checkpoint or a recovery.
+
+ghost use Rattle.std.specs.Prelude.{◌≡◌, ◌+◌, ◌*◌, ◌%◌, ◌<◌, ◌≤◌, ℕ, IsTrue, List, [], ◌∷◌, slice_index};
+ghost use Rattle.pmem_model.specs.Words.{bursts, flushes, fences};
+ghost use Rattle.pmem_model.specs.Memory.{word_at, is_at_home, SameHomes};
+
+use pmem_model::Pmem;
+use sls_base::{CoreNo, LINE_WORDS, TABLE_WORDS};
+
+/// The core that does it.
+pub const LEADER: CoreNo = 0;
+
+/// Stores a word.
+pub fn store(nvm: &mut Pmem, at: usize, word: u64)
+    requires in_table { at < TABLE_WORDS }
+    requires home { IsTrue (is_at_home nvm.old 0) }
+    ensures words { (i : ℕ) → word_at nvm.new i ≡ bursts at 1 (slice_index (word ∷ [])) (word_at nvm.old) i }
+    ensures homes { SameHomes nvm.old nvm.new }
+    ensures home { IsTrue (is_at_home nvm.new 0) }
+{
+    nvm.burst(at, &[word]);
+}
+
+/// Flushes lines.
+pub fn flush(nvm: &mut Pmem, at: usize, lines: usize)
+    requires line { at % LINE_WORDS ≡ 0 }
+    requires some { 0 < lines }
+    requires in_table { at + LINE_WORDS * lines ≤ TABLE_WORDS }
+    requires home { IsTrue (is_at_home nvm.old 0) }
+    ensures words { (i : ℕ) → word_at nvm.new i ≡ flushes LEADER at (LINE_WORDS * lines) (word_at nvm.old) i }
+    ensures homes { SameHomes nvm.old nvm.new }
+    ensures home { IsTrue (is_at_home nvm.new 0) }
+{
+    nvm.flush(LEADER, at, lines);
+}
+
+/// Makes durable what this core has flushed.
+pub fn fence(nvm: &mut Pmem)
+    requires { IsTrue (is_at_home nvm.old 0) }
+    ensures words { (i : ℕ) → word_at nvm.new i ≡ fences LEADER (word_at nvm.old) i }
+    ensures homes { SameHomes nvm.old nvm.new }
+    ensures home { IsTrue (is_at_home nvm.new 0) }
+{
+    nvm.fence(LEADER);
+}
+
+/// Reads a word.
+pub fn read(nvm: &Pmem, at: usize) -> u64
+    requires in_table { at < TABLE_WORDS }
+    requires home { IsTrue (is_at_home nvm.now 0) }
+    ensures { result ≡ (word_at nvm.now at).cached }
+{
+    nvm.read(at)
+}

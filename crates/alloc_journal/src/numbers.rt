@@ -1,0 +1,234 @@
+//! The numbers in use.
+
+ghost use Rattle.std.specs.Prelude.{◌≡◌, ◌≢◌, ◌+◌, ◌<◌, ◌≤◌, ◌↔◌, ℕ, Bool, IsTrue, IsNone, IfSome, true, false};
+ghost use Rattle.pmem_model.specs.Words.{cuts};
+ghost use Rattle.pmem_model.specs.Memory.{word_at, is_at_home, AllHome, SameHomes};
+ghost use Rattle.pmem_model.specs.Events.{WordIs, Clean};
+ghost use Rattle.pmem_layout.specs.declared.number.Number.TheVariants.{Object, Page};
+ghost use Rattle.pmem_layout.specs.Numbers.{index_of};
+ghost use Rattle.pmem_layout.specs.Owners as owners;
+ghost use Rattle.pmem_layout.specs.Owners.{owner};
+ghost use Rattle.pmem_layout.specs.Rooms.{StoresOnlyIn};
+ghost use Rattle.alloc_journal.specs.declared.journal.Stage.TheVariants.{Rest, Logged};
+ghost use Rattle.alloc_journal.specs.Sets.{has};
+ghost use Rattle.alloc_journal.specs.Format.{NumbersStand};
+ghost use Rattle.alloc_journal.specs.Work.{is_used, once_committed, is_redo, IsExact};
+ghost use Rattle.alloc_journal.specs.Shows.{NumbersShow};
+
+use crate::bits::{BASE_WORDS, Bits, least, neither, put};
+use crate::journal::Journal;
+use crate::memory::LEADER;
+use pmem_layout::{BASE_BITS, NUMBERS};
+use pmem_model::Pmem;
+use sls_base::{LAST_VERSION, OBJECTS, ObjId, PAGES, PageNo, Version};
+use std::marker::Model;
+
+/// The words of a set in which the objects stand. Those behind them are the pages'.
+const OBJECT_WORDS: usize = OBJECTS / BASE_BITS;
+
+/// The numbers of objects and pages that are in use in the running state and in the committed one, and the work that
+/// keeps the memory's words for them.
+///
+/// The memory tells the committed numbers after each step, whatever is written back and wherever the power is cut. Each
+/// step is one operation on the memory, or none where nothing is left to do, and a constant number of steps of its own.
+/// No call takes memory.
+#[derive(Drop)]
+pub struct Numbers {
+    running: Bits,
+    journal: Journal,
+}
+
+impl Model for Numbers {
+    ghost use Rattle.alloc_journal.specs.Work.{InUse, work_of, IsKept};
+
+    ghost Value = { InUse };
+
+    ghost view = { λ n. record { running = n.running; work = work_of n.journal } };
+
+    ghost invariant = { λ n. IsKept (work_of n.journal) };
+}
+
+impl Numbers {
+    /// The numbers of a memory after a cut, with the version that is committed there. They are known once `redo_step`
+    /// has answered true.
+    pub fn recover(nvm: &Pmem, version: Version) -> Numbers
+        requires home { IsTrue (is_at_home nvm.now 0) }
+        requires version { version ≤ LAST_VERSION }
+        ensures version { result.work.version ≡ version }
+        ensures redo { is_redo result.work.stage ≡ true }
+        ensures shows { (saved : ℕ → Bool)
+            → ((i : ℕ) → owner i ≡ owners.Numbers → WordIs LEADER Clean (word_at nvm.now i) ((word_at nvm.now i).durable))
+            → NumbersStand (λ i. (word_at nvm.now i).durable) version saved
+            → NumbersShow result.work (word_at nvm.now) version saved }
+    {
+        let journal = Journal::recover(nvm, version);
+        Numbers {
+            running: journal.committed,
+            journal,
+        }
+    }
+
+    /// The committed version.
+    pub fn version(&self) -> Version
+        ensures { result ≡ self.now.work.version }
+    {
+        self.journal.version
+    }
+
+    /// The least object number that is in use neither in the running nor in the committed state. None where there is
+    /// none.
+    pub fn least_free_object(&self) -> Option<ObjId>
+        ensures found { IfSome result (λ id. (id < OBJECTS) × (is_used self.now (index_of (Object id)) ≡ false)) }
+        ensures least { IfSome result (λ id. (other : ℕ) → other < id → is_used self.now (index_of (Object other)) ≡ true) }
+        ensures none { IsNone result ↔ ((id : ℕ) → id < OBJECTS → is_used self.now (index_of (Object id)) ≡ true) }
+    {
+        let free = neither(&self.running, &self.journal.committed);
+        let number = least(&free, 0, OBJECT_WORDS)?;
+        Some(number as ObjId)
+    }
+
+    /// The least page number that is in use neither in the running nor in the committed state. None where there is
+    /// none.
+    pub fn least_free_page(&self) -> Option<PageNo>
+        ensures found { IfSome result (λ page. (page < PAGES) × (is_used self.now (index_of (Page page)) ≡ false)) }
+        ensures least { IfSome result (λ page. (other : ℕ) → other < page → is_used self.now (index_of (Page other)) ≡ true) }
+        ensures none { IsNone result ↔ ((page : ℕ) → page < PAGES → is_used self.now (index_of (Page page)) ≡ true) }
+    {
+        let free = neither(&self.running, &self.journal.committed);
+        let number = least(&free, OBJECT_WORDS, BASE_WORDS)?;
+        Some((number - OBJECTS) as PageNo)
+    }
+
+    /// Takes an object number that is free into use in the running state.
+    pub fn take_object(&mut self, id: ObjId)
+        requires range { id < OBJECTS }
+        requires free { is_used self.old (index_of (Object id)) ≡ false }
+        ensures taken { has self.new.running (index_of (Object id)) ≡ true }
+        ensures others { (n : ℕ) → n < NUMBERS → n ≢ index_of (Object id) → has self.new.running n ≡ has self.old.running n }
+        ensures work { self.new.work ≡ self.old.work }
+    {
+        put(&mut self.running, id as usize, true);
+    }
+
+    /// Takes a page number that is free into use in the running state.
+    pub fn take_page(&mut self, page: PageNo)
+        requires range { page < PAGES }
+        requires free { is_used self.old (index_of (Page page)) ≡ false }
+        ensures taken { has self.new.running (index_of (Page page)) ≡ true }
+        ensures others { (n : ℕ) → n < NUMBERS → n ≢ index_of (Page page) → has self.new.running n ≡ has self.old.running n }
+        ensures work { self.new.work ≡ self.old.work }
+    {
+        put(&mut self.running, OBJECTS + page as usize, true);
+    }
+
+    /// Notes that an object number is no more in use in the running state. Where it is in use in the committed one, it is
+    /// free from the next commit on.
+    pub fn note_free_object(&mut self, id: ObjId)
+        requires { id < OBJECTS }
+        ensures freed { has self.new.running (index_of (Object id)) ≡ false }
+        ensures others { (n : ℕ) → n < NUMBERS → n ≢ index_of (Object id) → has self.new.running n ≡ has self.old.running n }
+        ensures work { self.new.work ≡ self.old.work }
+    {
+        put(&mut self.running, id as usize, false);
+    }
+
+    /// Notes that a page number is no more in use in the running state. Where it is in use in the committed one, it is
+    /// free from the next commit on.
+    pub fn note_free_page(&mut self, page: PageNo)
+        requires { page < PAGES }
+        ensures freed { has self.new.running (index_of (Page page)) ≡ false }
+        ensures others { (n : ℕ) → n < NUMBERS → n ≢ index_of (Page page) → has self.new.running n ≡ has self.old.running n }
+        ensures work { self.new.work ≡ self.old.work }
+    {
+        put(&mut self.running, OBJECTS + page as usize, false);
+    }
+
+    /// Writes the log of the next version, in which the numbers are in use that are so in the running state at the first
+    /// of these steps. Where the log of the committed version isn't cleared yet, it goes on with that first. True exactly
+    /// when the log is durable, so that the next version may be committed.
+    pub fn log_step(&mut self, nvm: &mut Pmem) -> bool
+        requires version { self.old.work.version < LAST_VERSION }
+        requires home { IsTrue (is_at_home nvm.old 0) }
+        ensures homes { SameHomes nvm.old nvm.new }
+        ensures home { IsTrue (is_at_home nvm.new 0) }
+        ensures rest { StoresOnlyIn owners.Numbers (word_at nvm.old) (word_at nvm.new) }
+        ensures last { IsTrue result ↔ (self.new.work.stage ≡ Logged) }
+        ensures version { self.new.work.version ≡ self.old.work.version }
+        ensures running { self.new.running ≡ self.old.running }
+        ensures begun { self.old.work.stage ≡ Rest → self.new.work.logged ≡ self.old.running }
+        ensures logged { self.old.work.stage ≢ Rest → self.new.work.logged ≡ self.old.work.logged }
+        ensures shows { (v : ℕ) (saved : ℕ → Bool) → NumbersShow self.old.work (word_at nvm.old) v saved
+            → NumbersShow self.new.work (word_at nvm.new) v saved }
+        ensures exact { (v : ℕ) (saved : ℕ → Bool) → NumbersShow self.old.work (word_at nvm.old) v saved
+            → IsExact self.old.work saved → IsExact self.new.work saved }
+    {
+        self.journal.log_step(nvm, &self.running)
+    }
+
+    /// Takes it that the version that was logged is committed. It does nothing where none was.
+    pub fn commit(&mut self)
+        ensures running { self.new.running ≡ self.old.running }
+        ensures work { self.new.work ≡ once_committed self.old.work }
+    {
+        self.journal.commit();
+    }
+
+    /// After the commit, brings the base up to date by the log, and clears the log. True exactly at the last, and where
+    /// there is nothing to do.
+    pub fn apply_step(&mut self, nvm: &mut Pmem) -> bool
+        requires { IsTrue (is_at_home nvm.old 0) }
+        ensures homes { SameHomes nvm.old nvm.new }
+        ensures home { IsTrue (is_at_home nvm.new 0) }
+        ensures rest { StoresOnlyIn owners.Numbers (word_at nvm.old) (word_at nvm.new) }
+        ensures last { IsTrue result ↔ (is_redo self.new.work.stage ≡ false) }
+        ensures version { self.new.work.version ≡ (once_committed self.old.work).version }
+        ensures running { self.new.running ≡ self.old.running }
+        ensures logged { self.new.work.logged ≡ self.old.work.logged }
+        ensures shows { (v : ℕ) (saved : ℕ → Bool) → NumbersShow (once_committed self.old.work) (word_at nvm.old) v saved
+            → NumbersShow self.new.work (word_at nvm.new) v saved }
+        ensures exact { (v : ℕ) (saved : ℕ → Bool) → NumbersShow (once_committed self.old.work) (word_at nvm.old) v saved
+            → IsExact (once_committed self.old.work) saved → IsExact self.new.work saved }
+    {
+        self.journal.commit();
+        self.journal.redo_step(nvm)
+    }
+
+    /// After a cut, brings the base up to date by the log where its head names the committed version, and clears the log.
+    /// The running state is the committed one from then on. True exactly at the last, and where there is nothing to do.
+    pub fn redo_step(&mut self, nvm: &mut Pmem) -> bool
+        requires { IsTrue (is_at_home nvm.old 0) }
+        ensures homes { SameHomes nvm.old nvm.new }
+        ensures home { IsTrue (is_at_home nvm.new 0) }
+        ensures rest { StoresOnlyIn owners.Numbers (word_at nvm.old) (word_at nvm.new) }
+        ensures last { IsTrue result ↔ (is_redo self.new.work.stage ≡ false) }
+        ensures version { self.new.work.version ≡ self.old.work.version }
+        ensures running { self.new.running ≡ self.new.work.committed }
+        ensures shows { (v : ℕ) (saved : ℕ → Bool) → NumbersShow self.old.work (word_at nvm.old) v saved
+            → NumbersShow self.new.work (word_at nvm.new) v saved }
+        ensures exact { (v : ℕ) (saved : ℕ → Bool) → NumbersShow self.old.work (word_at nvm.old) v saved
+            → IsExact self.old.work saved → IsExact self.new.work saved }
+    {
+        let done = self.journal.redo_step(nvm);
+        self.running = self.journal.committed;
+        done
+    }
+
+    /// Cuts the power, and begins anew at the version that is committed then: this one, or the next one where its log
+    /// was durable.
+    pub fn cut_and_recover(self, nvm: &mut Pmem, version: Version) -> Numbers
+        requires home { AllHome nvm.old }
+        requires version { version ≤ LAST_VERSION }
+        ensures home { AllHome nvm.new }
+        ensures words { (i : ℕ) → word_at nvm.new i ≡ cuts (word_at nvm.old) i }
+        ensures version { result.work.version ≡ version }
+        ensures redo { is_redo result.work.stage ≡ true }
+        ensures same { (saved : ℕ → Bool) → NumbersShow self.work (word_at nvm.old) version saved
+            → NumbersShow result.work (word_at nvm.new) version saved }
+        ensures next { (v : ℕ) (saved : ℕ → Bool) → self.work.stage ≡ Logged → version ≡ v + 1
+            → NumbersShow self.work (word_at nvm.old) v saved
+            → NumbersShow result.work (word_at nvm.new) version (has self.work.logged) }
+    {
+        nvm.cut();
+        Numbers::recover(nvm, version)
+    }
+}
