@@ -4,3 +4,4 @@ pub mod RedoLemmas
 pub mod ShowLemmas
 pub mod LogSteps
 pub mod RedoSteps
+pub mod Homes

@@ -10,3 +10,6 @@ mod memory;
 mod numbers;
 
 pub use numbers::Numbers;
+
+#[cfg(test)]
+mod tests;

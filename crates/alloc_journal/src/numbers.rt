@@ -1,6 +1,6 @@
 //! The numbers in use.
 
-ghost use Rattle.std.specs.Prelude.{◌≡◌, ◌≢◌, ◌+◌, ◌<◌, ◌≤◌, ◌↔◌, ℕ, Bool, IsTrue, IsNone, IfSome, true, false};
+ghost use Rattle.std.specs.Prelude.{◌≡◌, ◌≢◌, ◌+◌, ◌<◌, ◌≤◌, ◌↔◌, ℕ, Bool, IsTrue, IsNone, IfSome, true, false, not};
 ghost use Rattle.pmem_model.specs.Words.{cuts};
 ghost use Rattle.pmem_model.specs.Memory.{word_at, is_at_home, AllHome, SameHomes};
 ghost use Rattle.pmem_model.specs.Events.{WordIs, Clean};
@@ -82,8 +82,7 @@ impl Numbers {
         ensures least { IfSome result (λ id. (other : ℕ) → other < id → is_used self.now (index_of (Object other)) ≡ true) }
         ensures none { IsNone result ↔ ((id : ℕ) → id < OBJECTS → is_used self.now (index_of (Object id)) ≡ true) }
     {
-        let free = neither(&self.running, &self.journal.committed);
-        let number = least(&free, 0, OBJECT_WORDS)?;
+        let number = least(&self.free_numbers(), 0, OBJECT_WORDS)?;
         Some(number as ObjId)
     }
 
@@ -94,9 +93,15 @@ impl Numbers {
         ensures least { IfSome result (λ page. (other : ℕ) → other < page → is_used self.now (index_of (Page other)) ≡ true) }
         ensures none { IsNone result ↔ ((page : ℕ) → page < PAGES → is_used self.now (index_of (Page page)) ≡ true) }
     {
-        let free = neither(&self.running, &self.journal.committed);
-        let number = least(&free, OBJECT_WORDS, BASE_WORDS)?;
+        let number = least(&self.free_numbers(), OBJECT_WORDS, BASE_WORDS)?;
         Some((number - OBJECTS) as PageNo)
+    }
+
+    /// The numbers that are in use in neither state.
+    fn free_numbers(&self) -> Bits
+        ensures { (n : ℕ) → n < NUMBERS → has result n ≡ not (is_used self.now n) }
+    {
+        neither(&self.running, &self.journal.committed)
     }
 
     /// Takes an object number that is free into use in the running state.

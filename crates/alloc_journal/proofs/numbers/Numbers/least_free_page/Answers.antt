@@ -1,6 +1,6 @@
 use Rattle.std.proofs.Common.{◌≡◌, ◌+◌, ◌-◌, ◌∙◌, ap, subst, sym, not, true, arith}
 use Rattle.sls_base.specs.declared.limits.TheConstants.{OBJECTS}
-use Rattle.alloc_journal.specs.Work.{InUse, is_used}
+use Rattle.alloc_journal.specs.Work.{is_used}
 use Rattle.alloc_journal.proofs.numbers.Numbers.least_free_page.Goals as goal
 
 pub returns-clause-none : goal.returns-clause-none
@@ -12,6 +12,5 @@ returns-clause-none c =
       λ no. cc,
       λ all.
           let used = subst (λ n. is_used c.args.self.now n ≡ true) at (all (number - OBJECTS) (omega (arith, low, high))) in
-          let here = subst (λ (u : InUse). is_used u number ≡ true) (sym c.self.view_is) used in
-          sym found.2 ∙ c.neither-free.ensures number high ∙ ap not here,
+          sym found.2 ∙ c.free_numbers.ensures number high ∙ ap not used,
     )
