@@ -4,4 +4,5 @@ pub mod RedoLemmas
 pub mod ShowLemmas
 pub mod LogSteps
 pub mod RedoSteps
+pub mod FormatSteps
 pub mod Homes

@@ -11,16 +11,20 @@ use Rattle.pmem_layout.specs.Owners.{Numbers, owner}
 use Rattle.pmem_layout.specs.Rooms.{CalmIn, LeftIn, SameIn}
 use Rattle.alloc_journal.specs.declared.bits.TheConstants.{BASE_WORDS}
 use Rattle.alloc_journal.specs.declared.journal.Stage.{Stage}
-use Rattle.alloc_journal.specs.declared.journal.Stage.TheVariants.{Rest, StoringEntries, EntriesInFlight, EntriesDurable, HeadStored, HeadInFlight, Logged, Redoing, BaseInFlight, BaseDurable, HeadCleared, ClearInFlight}
+use Rattle.alloc_journal.specs.declared.journal.Stage.TheVariants.{Unformatted, FirstStored, FirstInFlight, Rest, StoringEntries, EntriesInFlight, EntriesDurable, HeadStored, HeadInFlight, Logged, Redoing, BaseInFlight, BaseDurable, HeadCleared, ClearInFlight}
 use Rattle.alloc_journal.specs.Sets.{bit_of, has}
 use Rattle.alloc_journal.specs.Format.{number_of, comes, redone, entries, count_at, base_bit, AreEntries, NumbersStand}
 use Rattle.alloc_journal.specs.Work.{Work, is_redo, as_committed}
 use Rattle.alloc_journal.specs.Shows.{NumbersShow, IsUnnamed, head_kind, head_value, entry_kind, base_kind, counted, redone_at, IsHeadAt}
+use Rattle.alloc_journal.specs.Formatting.{FormatShows, first_kind}
 use Rattle.alloc_journal.proofs.Words.{owner_head, owner_base, owner_entry, durable_calm}
 use Rattle.alloc_journal.proofs.RedoLemmas.{redone_is, redone_unnamed, redone_named, redone_same, count_of_none, count_of_named, count_of_next}
 
 -- each stage knows what the base reads
 pub base_reads : (s : Stage) (w : Word) (x : ℕ) → WordIs 0 (base_kind s) w x → w.cached ≡ x
+base_reads Unformatted w x h = h.0
+base_reads FirstStored w x h = h.0
+base_reads FirstInFlight w x h = h.0
 base_reads Rest w x h = h.0
 base_reads StoringEntries w x h = h.0
 base_reads EntriesInFlight w x h = h.0
@@ -90,6 +94,9 @@ numbers_calm w f g v saved calm h = record {
 
 -- the entries that count are durable
 entry_left : (s : Stage) (w : Word) (x y : ℕ) → is_redo s ≡ true → WordIs 0 (entry_kind s) w x → Left w y → y ≡ x
+entry_left Unformatted w x y redo h l = cc
+entry_left FirstStored w x y redo h l = cc
+entry_left FirstInFlight w x y redo h l = cc
 entry_left Rest w x y redo h l = cc
 entry_left StoringEntries w x y redo h l = cc
 entry_left EntriesInFlight w x y redo h l = cc
@@ -114,6 +121,9 @@ counts v n e is = ap (λ (z : ℕ). log_count z v) e ∙ is
 
 head_left : (s : Stage) (w : Work) (head : ℕ) (u : Word) (y : ℕ) → w.entries < 2 ^ 16 → IsHeadAt s w head
     → WordIs 0 (head_kind s head) u (head_value s head) → Left u y → HeadLeft s w y
+head_left Unformatted w head u y most is h l = inl (counts w.version 0 (left_word 0 Clean u 0 y h l) (count_of_none w.version))
+head_left FirstStored w head u y most is h l = inl (counts w.version 0 (left_word 0 Clean u 0 y h l) (count_of_none w.version))
+head_left FirstInFlight w head u y most is h l = inl (counts w.version 0 (left_word 0 Clean u 0 y h l) (count_of_none w.version))
 head_left Rest w head u y most is h l = inl (counts w.version 0 (left_word 0 Clean u 0 y h l) (count_of_none w.version))
 head_left StoringEntries w head u y most is h l = inl (counts w.version 0 (left_word 0 Clean u 0 y h l) (count_of_none w.version))
 head_left EntriesInFlight w head u y most is h l = inl (counts w.version 0 (left_word 0 Clean u 0 y h l) (count_of_none w.version))
@@ -308,3 +318,40 @@ pub cut_stands : (w : Work) (f g : ℕ → Word) (v : ℕ) (saved : ℕ → Bool
     → NumbersStand (λ i. (g i).durable) v saved
 cut_stands w f g v saved cut h =
     numbers_stand w f (λ i. (g i).durable) v saved (record { at = λ i own. cut_left f g cut.at i }) h
+
+-- FORMATTING
+
+pub format_calm : (w : Work) (f g : ℕ → Word) → CalmIn Numbers f g → FormatShows w f → FormatShows w g
+format_calm w f g calm h = record {
+  version_is = h.version_is;
+  no_entries = h.no_entries;
+  head_word = calm_word 0 Clean (f LOG_HEAD_AT) (g LOG_HEAD_AT) 0 (calm.at LOG_HEAD_AT owner_head) h.head_word;
+  base_words = λ k lt. calm_word 0 (first_kind w.stage) (f (OBJECT_BASE_AT + k)) (g (OBJECT_BASE_AT + k)) (slice_index w.committed k) (calm.at (OBJECT_BASE_AT + k) (owner_base k lt)) (h.base_words k lt);
+}
+
+-- a memory that is formatted is at rest, at version 0
+pub formatted : (w : Work) (f : ℕ → Word) → w.stage ≡ Rest → FormatShows w f → NumbersShow w f 0 (has w.committed)
+formatted w f e all =
+    let h = subst (λ (s : Stage). FormatShows (record w { stage = s }) f) e all in
+    let none = h.no_entries in
+    let show : NumbersShow (record w { stage = Rest }) f 0 (has w.committed) = record {
+      version_is = h.version_is;
+      entry = λ i. 0;
+      head = 0;
+      base = slice_index w.committed;
+      entry_words = λ i lt. absurd (omega (arith, lt, none));
+      head_word = h.head_word;
+      base_words = h.base_words;
+      are_entries = record {
+        most = omega (arith, none);
+        in_range = λ i lt. absurd (omega (arith, lt, none));
+        rising = λ i j less lt. absurd (omega (arith, lt, none));
+      };
+      tell = λ i lt. absurd (omega (arith, lt, none));
+      log_is = none;
+      head_is = tt;
+      base_has = λ n inside unnamed. refl;
+      committed_has = λ n inside unnamed. refl;
+      durable_has = λ n inside unnamed. ap (λ (x : ℕ). bit_of x n) ((h.base_words (n / BASE_BITS) (omega (arith, inside))).1);
+    } in
+    subst (λ (s : Stage). NumbersShow (record w { stage = s }) f 0 (has w.committed)) (sym e) show

@@ -3,3 +3,4 @@ pub mod Format
 pub mod Says
 pub mod Work
 pub mod Shows
+pub mod Formatting

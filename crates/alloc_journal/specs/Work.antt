@@ -3,7 +3,7 @@ use Rattle.std.specs.Prelude.{◌≡◌, ℕ, ◌+◌, ◌<◌, ◌≤◌, ◌||
 use Rattle.sls_base.specs.declared.limits.TheConstants.{LAST_VERSION}
 use Rattle.pmem_layout.specs.declared.places.TheConstants.{NUMBERS}
 use Rattle.alloc_journal.specs.declared.journal.Stage.{Stage}
-use Rattle.alloc_journal.specs.declared.journal.Stage.TheVariants.{StoringEntries, EntriesInFlight, EntriesDurable, HeadStored, HeadInFlight, Logged, Redoing, BaseInFlight, BaseDurable, HeadCleared, ClearInFlight}
+use Rattle.alloc_journal.specs.declared.journal.Stage.TheVariants.{Unformatted, FirstStored, FirstInFlight, StoringEntries, EntriesInFlight, EntriesDurable, HeadStored, HeadInFlight, Logged, Redoing, BaseInFlight, BaseDurable, HeadCleared, ClearInFlight}
 use Rattle.alloc_journal.specs.declared.journal.Journal.{Journal}
 use Rattle.alloc_journal.specs.Sets.{has}
 
@@ -37,6 +37,13 @@ pub record InUse : Type 0 where
 -- whether a number is in use, in the running or the committed state
 abbrev pub is_used : InUse → ℕ → Bool
 is_used u n = has u.running n || has u.work.committed n
+
+-- The memory is formatted.
+abbrev pub is_formatting : Stage → Bool
+is_formatting Unformatted = true
+is_formatting FirstStored = true
+is_formatting FirstInFlight = true
+is_formatting _ = false
 
 -- The log of the committed version is redone: its head may name that version.
 abbrev pub is_redo : Stage → Bool

@@ -7,16 +7,18 @@ ghost use Rattle.pmem_model.specs.Events.{WordIs, Clean};
 ghost use Rattle.pmem_layout.specs.Owners.{Numbers, owner};
 ghost use Rattle.pmem_layout.specs.Rooms.{StoresOnlyIn};
 ghost use Rattle.pmem_layout.specs.Fields.{log_count};
-ghost use Rattle.alloc_journal.specs.declared.journal.Stage.TheVariants.{Rest, StoringEntries, Logged, Redoing};
+ghost use Rattle.alloc_journal.specs.declared.journal.Stage.TheVariants.{Unformatted, Rest, StoringEntries, Logged, Redoing};
 ghost use Rattle.pmem_layout.specs.Places as places;
 ghost use Rattle.alloc_journal.specs.Format.{NumbersStand};
-ghost use Rattle.alloc_journal.specs.Work.{work_of, once_committed, is_redo, IsKept, IsExact};
+ghost use Rattle.alloc_journal.specs.Work.{work_of, once_committed, is_redo, is_formatting, IsKept, IsExact};
+ghost use Rattle.alloc_journal.specs.Formatting.{FormatShows};
 ghost use Rattle.alloc_journal.specs.Shows.{NumbersShow};
+ghost use Rattle.alloc_journal.specs.Sets as sets;
 ghost use Rattle.alloc_journal.specs.Says.{Says};
 
 use crate::bits::{BASE_WORDS, Bits, differing, has, least, put};
 use crate::entry::{Change, change_of, entry_word};
-use crate::memory::{LEADER, fence, flush, read, store};
+use crate::memory::{LEADER, fence, flush, read, store, store_words};
 use pmem_layout::{
     BASE_BITS, EMPTY_WORD, LOG_ENTRIES_AT, LOG_HEAD_AT, LogHead, NUMBERS, OBJECT_BASE_AT,
     log_entry_at,
@@ -30,6 +32,11 @@ const BASE_LINES: usize = (BASE_WORDS + LINE_WORDS - 1) / LINE_WORDS;
 /// How far the work on the memory has come.
 #[derive(Clone, Copy, PartialEq, Eq)]
 pub enum Stage {
+    /// Nothing is stored yet: the memory isn't formatted.
+    Unformatted,
+    /// The first base is stored.
+    FirstStored,
+    FirstInFlight,
     /// There is no log: the base tells the numbers.
     Rest,
     /// The entries of the next version's log are stored, one by one.
@@ -68,6 +75,59 @@ pub struct Journal {
 }
 
 impl Journal {
+    /// What there is before a memory is formatted: no number is in use.
+    pub fn unformatted() -> Journal
+        ensures kept { IsKept (work_of result) }
+        ensures none { (n : ℕ) → n < NUMBERS → sets.has result.committed n ≡ false }
+        ensures stage { result.stage ≡ Unformatted }
+        ensures shows { (f : ℕ → Word) → WordIs LEADER Clean (f LOG_HEAD_AT) 0 → FormatShows (work_of result) f }
+    {
+        Journal {
+            version: 0,
+            committed: [0; BASE_WORDS],
+            logged: [0; BASE_WORDS],
+            pending: [0; BASE_WORDS],
+            stage: Stage::Unformatted,
+            entries: 0,
+            redone: 0,
+        }
+    }
+
+    /// Stores these numbers as the first base. One operation; true at the last, and where there is a base already.
+    pub fn format_step(&mut self, nvm: &mut Pmem, running: &Bits) -> bool
+        requires kept { IsKept (work_of self.old) }
+        requires home { IsTrue (is_at_home nvm.old 0) }
+        ensures kept { IsKept (work_of self.new) }
+        ensures homes { SameHomes nvm.old nvm.new }
+        ensures home { IsTrue (is_at_home nvm.new 0) }
+        ensures rest { StoresOnlyIn Numbers (word_at nvm.old) (word_at nvm.new) }
+        ensures last { IsTrue result ↔ (is_formatting self.new.stage ≡ false) }
+        ensures begun { self.old.stage ≡ Unformatted → self.new.committed ≡ running.now }
+        ensures committed { self.old.stage ≢ Unformatted → self.new.committed ≡ self.old.committed }
+        ensures none { is_formatting self.old.stage ≡ false → self.new ≡ self.old }
+        ensures shows { FormatShows (work_of self.old) (word_at nvm.old) → FormatShows (work_of self.new) (word_at nvm.new) }
+    {
+        match self.stage {
+            Stage::Unformatted => {
+                self.committed = *running;
+                store_words(nvm, OBJECT_BASE_AT, running);
+                self.stage = Stage::FirstStored;
+                false
+            }
+            Stage::FirstStored => {
+                flush(nvm, OBJECT_BASE_AT, BASE_LINES);
+                self.stage = Stage::FirstInFlight;
+                false
+            }
+            Stage::FirstInFlight => {
+                fence(nvm);
+                self.stage = Stage::Rest;
+                true
+            }
+            _ => true,
+        }
+    }
+
     /// The work that is left to do on a memory after a cut: what its log says is to be redone.
     pub fn recover(nvm: &Pmem, version: Version) -> Journal
         requires home { IsTrue (is_at_home nvm.now 0) }

@@ -5,11 +5,12 @@ ghost use Rattle.pmem_model.specs.Words.{Word};
 ghost use Rattle.pmem_model.specs.Events.{IsCut, WordIs, Clean};
 ghost use Rattle.pmem_layout.specs.Owners.{Numbers};
 ghost use Rattle.pmem_layout.specs.Rooms.{CalmIn, FencedIn, LeftIn, SameIn};
-ghost use Rattle.alloc_journal.specs.declared.journal.Stage.TheVariants.{Logged, Redoing};
+ghost use Rattle.alloc_journal.specs.declared.journal.Stage.TheVariants.{Rest, Logged, Redoing};
 ghost use Rattle.alloc_journal.specs.Sets.{has};
 ghost use Rattle.alloc_journal.specs.Format.{NumbersStand};
 ghost use Rattle.alloc_journal.specs.Work.{Work, as_committed, IsExact};
 ghost use Rattle.alloc_journal.specs.Shows.{NumbersShow};
+ghost use Rattle.alloc_journal.specs.Formatting.{FormatShows};
 
 use crate::memory::LEADER;
 use pmem_layout::NUMBERS;
@@ -51,6 +52,13 @@ pub fn cut()
         → NumbersStand (λ i. (g i).durable) v saved }
     ensures next { (w : Work) (f g : ℕ → Word) (v : ℕ) (saved : ℕ → Bool) → w.stage ≡ Logged → IsCut f g
         → NumbersShow w f v saved → NumbersStand (λ i. (g i).durable) (v + 1) (has w.logged) }
+{}
+
+/// A memory that is formatted shows its first numbers at version 0, and while it is formatted, what is known outlives events
+/// that store nothing in the numbers' words.
+pub fn formatted()
+    ensures calm { (w : Work) (f g : ℕ → Word) → CalmIn Numbers f g → FormatShows w f → FormatShows w g }
+    ensures shows { (w : Work) (f : ℕ → Word) → w.stage ≡ Rest → FormatShows w f → NumbersShow w f 0 (has w.committed) }
 {}
 
 /// Durable words tell one set of numbers at a version, by the words that are the numbers' own.

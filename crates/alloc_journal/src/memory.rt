@@ -1,14 +1,27 @@
 //! One operation on the table of the memory each, by the core that leads a checkpoint or a recovery.
 
-ghost use Rattle.std.specs.Prelude.{◌≡◌, ◌+◌, ◌*◌, ◌%◌, ◌<◌, ◌≤◌, ℕ, IsTrue, List, [], ◌∷◌, slice_index};
+ghost use Rattle.std.specs.Prelude.{◌≡◌, ◌+◌, ◌*◌, ◌%◌, ◌<◌, ◌≤◌, ℕ, IsTrue, List, [], ◌∷◌, length, slice_index};
 ghost use Rattle.pmem_model.specs.Words.{bursts, flushes, fences};
 ghost use Rattle.pmem_model.specs.Memory.{word_at, is_at_home, SameHomes};
 
 use pmem_model::Pmem;
-use sls_base::{CoreNo, LINE_WORDS, TABLE_WORDS};
+use sls_base::{CoreNo, FRAME_WORDS, LINE_WORDS, TABLE_WORDS};
 
 /// The core that does it.
 pub const LEADER: CoreNo = 0;
+
+/// Stores words behind one another.
+pub fn store_words(nvm: &mut Pmem, at: usize, words: &[u64])
+    requires some { 0 < length words.now }
+    requires most { length words.now ≤ FRAME_WORDS }
+    requires in_table { at + length words.now ≤ TABLE_WORDS }
+    requires home { IsTrue (is_at_home nvm.old 0) }
+    ensures words { (i : ℕ) → word_at nvm.new i ≡ bursts at (length words.now) (slice_index words.now) (word_at nvm.old) i }
+    ensures homes { SameHomes nvm.old nvm.new }
+    ensures home { IsTrue (is_at_home nvm.new 0) }
+{
+    nvm.burst(at, words);
+}
 
 /// Stores a word.
 pub fn store(nvm: &mut Pmem, at: usize, word: u64)
@@ -18,7 +31,7 @@ pub fn store(nvm: &mut Pmem, at: usize, word: u64)
     ensures homes { SameHomes nvm.old nvm.new }
     ensures home { IsTrue (is_at_home nvm.new 0) }
 {
-    nvm.burst(at, &[word]);
+    store_words(nvm, at, &[word]);
 }
 
 /// Flushes lines.

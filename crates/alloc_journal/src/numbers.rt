@@ -1,7 +1,7 @@
 //! The numbers in use.
 
 ghost use Rattle.std.specs.Prelude.{◌≡◌, ◌≢◌, ◌+◌, ◌<◌, ◌≤◌, ◌↔◌, ℕ, Bool, IsTrue, IsNone, IfSome, true, false, not};
-ghost use Rattle.pmem_model.specs.Words.{cuts};
+ghost use Rattle.pmem_model.specs.Words.{Word, cuts};
 ghost use Rattle.pmem_model.specs.Memory.{word_at, is_at_home, AllHome, SameHomes};
 ghost use Rattle.pmem_model.specs.Events.{WordIs, Clean};
 ghost use Rattle.pmem_layout.specs.declared.number.Number.TheVariants.{Object, Page};
@@ -9,16 +9,17 @@ ghost use Rattle.pmem_layout.specs.Numbers.{index_of};
 ghost use Rattle.pmem_layout.specs.Owners as owners;
 ghost use Rattle.pmem_layout.specs.Owners.{owner};
 ghost use Rattle.pmem_layout.specs.Rooms.{StoresOnlyIn};
-ghost use Rattle.alloc_journal.specs.declared.journal.Stage.TheVariants.{Rest, Logged};
+ghost use Rattle.alloc_journal.specs.declared.journal.Stage.TheVariants.{Unformatted, Rest, Logged};
 ghost use Rattle.alloc_journal.specs.Sets.{has};
 ghost use Rattle.alloc_journal.specs.Format.{NumbersStand};
-ghost use Rattle.alloc_journal.specs.Work.{is_used, once_committed, is_redo, IsExact};
+ghost use Rattle.alloc_journal.specs.Work.{is_used, once_committed, is_redo, is_formatting, IsExact};
+ghost use Rattle.alloc_journal.specs.Formatting.{FormatShows};
 ghost use Rattle.alloc_journal.specs.Shows.{NumbersShow};
 
 use crate::bits::{BASE_WORDS, Bits, least, neither, put};
 use crate::journal::Journal;
 use crate::memory::LEADER;
-use pmem_layout::{BASE_BITS, NUMBERS};
+use pmem_layout::{BASE_BITS, LOG_HEAD_AT, NUMBERS};
 use pmem_model::Pmem;
 use sls_base::{LAST_VERSION, OBJECTS, ObjId, PAGES, PageNo, Version};
 use std::marker::Model;
@@ -49,6 +50,37 @@ impl Model for Numbers {
 }
 
 impl Numbers {
+    /// The numbers of a memory of zeros, which is to be formatted: none is in use. Those that are taken into use before the
+    /// first `format_step` are stored by it.
+    pub fn unformatted() -> Numbers
+        ensures none { (n : ℕ) → n < NUMBERS → is_used result n ≡ false }
+        ensures stage { result.work.stage ≡ Unformatted }
+        ensures shows { (f : ℕ → Word) → WordIs LEADER Clean (f LOG_HEAD_AT) 0 → FormatShows result.work f }
+    {
+        let journal = Journal::unformatted();
+        Numbers {
+            running: journal.committed,
+            journal,
+        }
+    }
+
+    /// Stores the numbers that are in use in the running state at the first of these steps as those of version 0. True
+    /// exactly when they are durable, and where a memory is formatted already.
+    pub fn format_step(&mut self, nvm: &mut Pmem) -> bool
+        requires { IsTrue (is_at_home nvm.old 0) }
+        ensures homes { SameHomes nvm.old nvm.new }
+        ensures home { IsTrue (is_at_home nvm.new 0) }
+        ensures rest { StoresOnlyIn owners.Numbers (word_at nvm.old) (word_at nvm.new) }
+        ensures last { IsTrue result ↔ (is_formatting self.new.work.stage ≡ false) }
+        ensures running { self.new.running ≡ self.old.running }
+        ensures begun { self.old.work.stage ≡ Unformatted → self.new.work.committed ≡ self.old.running }
+        ensures committed { self.old.work.stage ≢ Unformatted → self.new.work.committed ≡ self.old.work.committed }
+        ensures none { is_formatting self.old.work.stage ≡ false → self.new ≡ self.old }
+        ensures shows { FormatShows self.old.work (word_at nvm.old) → FormatShows self.new.work (word_at nvm.new) }
+    {
+        self.journal.format_step(nvm, &self.running)
+    }
+
     /// The numbers of a memory after a cut, with the version that is committed there. They are known once `redo_step`
     /// has answered true.
     pub fn recover(nvm: &Pmem, version: Version) -> Numbers

@@ -77,6 +77,11 @@ impl World {
         self.nvm.durable(PAGE_BASE_AT)
     }
 
+    /// One operation of formatting.
+    fn format(&mut self) -> bool {
+        self.numbers.format_step(&mut self.nvm)
+    }
+
     /// One operation of a checkpoint.
     fn advance(&mut self) {
         match self.turn {
@@ -339,6 +344,26 @@ fn drawn_steps_and_cuts_leave_what_whole_sets_have(rt: HostRuntime) -> Result<()
         }
         compare(&rt, &world, &sets, step);
     }
+    Ok(())
+}
+
+#[test]
+fn the_first_numbers_are_stored(rt: HostRuntime) -> Result<(), Fail> {
+    let mut world = World::with_ten_pages(rt.alloc())?;
+    world.numbers = Numbers::unformatted();
+    for _ in 0..10u8 {
+        world.take_object();
+    }
+    for _ in 0..4u8 {
+        world.take_page();
+    }
+    assert!(rt; !world.format() && !world.format() && world.format());
+    assert_eq!(rt; world.numbers.version(), 0);
+    assert_eq!(rt; world.first_pages(), 0xF);
+    world.cut();
+    assert!(rt; world.redo(MOST_STEPS));
+    assert_eq!(rt; world.numbers.least_free_object(), Some(10));
+    assert_eq!(rt; world.numbers.least_free_page(), Some(4));
     Ok(())
 }
 
