@@ -1,4 +1,5 @@
--- Which numbers durable words tell at a version: those of the base, changed by the log where its head names the version.
+-- Which numbers durable words tell at a version: those of the base, changed by the log where its head names the
+-- version.
 use Rattle.std.specs.Prelude.{◌≡◌, ℕ, zero, suc, ◌/◌, ◌%◌, ◌<◌, ◌≤◌, ◌==◌, if◌then◌else◌, Bool}
 use Rattle.pmem_layout.specs.declared.places.TheConstants.{LOG_HEAD_AT, NUMBERS}
 use Rattle.pmem_layout.specs.Places.{log_entry_at}

@@ -1,7 +1,7 @@
 -- Sets of numbers in words, 64 a word.
-use Rattle.std.specs.Prelude.{ℕ, ◌/◌, ◌%◌, ◌==◌, Bool, true, false, not, List, slice_index}
+use Rattle.std.specs.Prelude.{◌≡◌, ◌≢◌, ℕ, ◌/◌, ◌%◌, ◌<◌, ◌==◌, Bool, true, false, not, List, slice_index}
 use Rattle.std.specs.Int.{bit_at}
-use Rattle.pmem_layout.specs.declared.places.TheConstants.{BASE_BITS}
+use Rattle.pmem_layout.specs.declared.places.TheConstants.{BASE_BITS, NUMBERS}
 
 -- whether the bit of a number is set in its word
 abbrev pub bit_of : ℕ → ℕ → Bool
@@ -15,3 +15,7 @@ has words n = bit_of (slice_index words (n / BASE_BITS)) n
 abbrev pub differ : Bool → Bool → Bool
 differ true other = not other
 differ false other = other
+
+-- Sets that have the same numbers, but perhaps for one.
+abbrev pub SameBut : ℕ → List ℕ → List ℕ → Type 0
+SameBut number old new = (n : ℕ) → n < NUMBERS → n ≢ number → has new n ≡ has old n

@@ -78,7 +78,8 @@ IsHeadAt _ w head = Unit {0}
 -- A number that no entry is of stays as it was committed; of a pending one the entry is yet to come.
 pub record IsBegun (w : Work) (entry : ℕ → ℕ) : Type 0 where
   pub to_come : (i n : ℕ) → i < w.entries → n < NUMBERS → has w.pending n ≡ true → number_of (entry i) < n
-  pub others : (n : ℕ) → n < NUMBERS → has w.pending n ≡ false → IsUnnamed entry 0 w.entries n → has w.committed n ≡ has w.logged n
+  pub others : (n : ℕ) → n < NUMBERS → has w.pending n ≡ false → IsUnnamed entry 0 w.entries n
+      → has w.committed n ≡ has w.logged n
 
 abbrev pub IsWhole : Work → (ℕ → ℕ) → Type 0
 IsWhole w entry = (n : ℕ) → n < NUMBERS → IsUnnamed entry 0 w.entries n → has w.committed n ≡ has w.logged n

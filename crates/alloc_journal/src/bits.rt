@@ -24,7 +24,7 @@ pub fn has(bits: &Bits, number: usize) -> bool
 pub fn put(bits: &mut Bits, number: usize, in_set: bool)
     requires { number < NUMBERS }
     ensures changed { sets.has bits.new number ≡ in_set }
-    ensures others { (other : ℕ) → other < NUMBERS → other ≢ number → sets.has bits.new other ≡ sets.has bits.old other }
+    ensures others { sets.SameBut number bits.old bits.new }
 {
     let word = number / BASE_BITS;
     bits[word] = with_bit(bits[word], (number % BASE_BITS) as u32, in_set);
@@ -67,9 +67,11 @@ fn in_one(a: u64, b: u64) -> u64
 /// The least number that some words of a set have: those from the first up to the past one.
 pub fn least(bits: &Bits, first: usize, past: usize) -> Option<usize>
     requires { past ≤ BASE_WORDS }
-    ensures found { IfSome result (λ n. (BASE_BITS * first ≤ n) × (n < BASE_BITS * past) × (sets.has bits.now n ≡ true)) }
+    ensures inside { IfSome result (λ n. (BASE_BITS * first ≤ n) × (n < BASE_BITS * past)) }
+    ensures found { IfSome result (λ n. sets.has bits.now n ≡ true) }
     ensures least { IfSome result (λ n. (m : ℕ) → BASE_BITS * first ≤ m → m < n → sets.has bits.now m ≡ false) }
-    ensures none { IsNone result → (m : ℕ) → BASE_BITS * first ≤ m → m < BASE_BITS * past → sets.has bits.now m ≡ false }
+    ensures none { IsNone result → (m : ℕ) → BASE_BITS * first ≤ m → m < BASE_BITS * past
+        → sets.has bits.now m ≡ false }
 {
     for word in first..past {
         if bits[word] != 0 {

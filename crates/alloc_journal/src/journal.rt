@@ -105,7 +105,8 @@ impl Journal {
         ensures begun { self.old.stage ≡ Unformatted → self.new.committed ≡ running.now }
         ensures committed { self.old.stage ≢ Unformatted → self.new.committed ≡ self.old.committed }
         ensures none { is_formatting self.old.stage ≡ false → self.new ≡ self.old }
-        ensures shows { FormatShows (work_of self.old) (word_at nvm.old) → FormatShows (work_of self.new) (word_at nvm.new) }
+        ensures shows { FormatShows (work_of self.old) (word_at nvm.old)
+            → FormatShows (work_of self.new) (word_at nvm.new) }
     {
         match self.stage {
             Stage::Unformatted => {
@@ -375,10 +376,12 @@ impl Journal {
         ensures stage { self.new.stage ≡ Redoing }
         ensures version { self.new.version ≡ self.old.version }
         ensures logged { self.new.logged ≡ self.old.logged }
-        ensures shows { (v : ℕ) (saved : ℕ → Bool) → Says change (word_at nvm.old (places.log_entry_at self.old.redone)).cached
+        ensures shows { (v : ℕ) (saved : ℕ → Bool)
+            → Says change (word_at nvm.old (places.log_entry_at self.old.redone)).cached
             → NumbersShow (work_of self.old) (word_at nvm.old) v saved
             → NumbersShow (work_of self.new) (word_at nvm.new) v saved }
-        ensures exact { (v : ℕ) (saved : ℕ → Bool) → Says change (word_at nvm.old (places.log_entry_at self.old.redone)).cached
+        ensures exact { (v : ℕ) (saved : ℕ → Bool)
+            → Says change (word_at nvm.old (places.log_entry_at self.old.redone)).cached
             → NumbersShow (work_of self.old) (word_at nvm.old) v saved
             → IsExact (work_of self.old) saved → IsExact (work_of self.new) saved }
     {

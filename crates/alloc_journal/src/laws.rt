@@ -54,8 +54,8 @@ pub fn cut()
         → NumbersShow w f v saved → NumbersStand (λ i. (g i).durable) (v + 1) (has w.logged) }
 {}
 
-/// A memory that is formatted shows its first numbers at version 0, and while it is formatted, what is known outlives events
-/// that store nothing in the numbers' words.
+/// A memory that is formatted shows its first numbers at version 0, and while it is formatted, what is known outlives
+/// events that store nothing in the numbers' words.
 pub fn formatted()
     ensures calm { (w : Work) (f g : ℕ → Word) → CalmIn Numbers f g → FormatShows w f → FormatShows w g }
     ensures shows { (w : Work) (f : ℕ → Word) → w.stage ≡ Rest → FormatShows w f → NumbersShow w f 0 (has w.committed) }

@@ -1,5 +1,5 @@
-//! The numbers of objects and pages that are in use, in the persistent memory: a base, and a log that is redone where its
-//! head names the committed version.
+//! The numbers of objects and pages that are in use, in the persistent memory: a base, and a log that is redone where
+//! its head names the committed version.
 #![tactic(auto)]
 
 mod bits;

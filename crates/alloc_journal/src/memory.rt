@@ -16,7 +16,8 @@ pub fn store_words(nvm: &mut Pmem, at: usize, words: &[u64])
     requires most { length words.now ≤ FRAME_WORDS }
     requires in_table { at + length words.now ≤ TABLE_WORDS }
     requires home { IsTrue (is_at_home nvm.old 0) }
-    ensures words { (i : ℕ) → word_at nvm.new i ≡ bursts at (length words.now) (slice_index words.now) (word_at nvm.old) i }
+    ensures words { (i : ℕ) → word_at nvm.new i
+        ≡ bursts at (length words.now) (slice_index words.now) (word_at nvm.old) i }
     ensures homes { SameHomes nvm.old nvm.new }
     ensures home { IsTrue (is_at_home nvm.new 0) }
 {

@@ -10,7 +10,7 @@ ghost use Rattle.pmem_layout.specs.Owners as owners;
 ghost use Rattle.pmem_layout.specs.Owners.{owner};
 ghost use Rattle.pmem_layout.specs.Rooms.{StoresOnlyIn};
 ghost use Rattle.alloc_journal.specs.declared.journal.Stage.TheVariants.{Unformatted, Rest, Logged};
-ghost use Rattle.alloc_journal.specs.Sets.{has};
+ghost use Rattle.alloc_journal.specs.Sets.{has, SameBut};
 ghost use Rattle.alloc_journal.specs.Format.{NumbersStand};
 ghost use Rattle.alloc_journal.specs.Work.{is_used, once_committed, is_redo, is_formatting, IsExact};
 ghost use Rattle.alloc_journal.specs.Formatting.{FormatShows};
@@ -50,8 +50,8 @@ impl Model for Numbers {
 }
 
 impl Numbers {
-    /// The numbers of a memory of zeros, which is to be formatted: none is in use. Those that are taken into use before the
-    /// first `format_step` are stored by it.
+    /// The numbers of a memory of zeros, which is to be formatted: none is in use. Those that are taken into use before
+    /// the first `format_step` are stored by it.
     pub fn unformatted() -> Numbers
         ensures none { (n : ℕ) → n < NUMBERS → is_used result n ≡ false }
         ensures stage { result.work.stage ≡ Unformatted }
@@ -89,7 +89,8 @@ impl Numbers {
         ensures version { result.work.version ≡ version }
         ensures redo { is_redo result.work.stage ≡ true }
         ensures shows { (saved : ℕ → Bool)
-            → ((i : ℕ) → owner i ≡ owners.Numbers → WordIs LEADER Clean (word_at nvm.now i) ((word_at nvm.now i).durable))
+            → ((i : ℕ) → owner i ≡ owners.Numbers
+            → WordIs LEADER Clean (word_at nvm.now i) ((word_at nvm.now i).durable))
             → NumbersStand (λ i. (word_at nvm.now i).durable) version saved
             → NumbersShow result.work (word_at nvm.now) version saved }
     {
@@ -111,7 +112,8 @@ impl Numbers {
     /// none.
     pub fn least_free_object(&self) -> Option<ObjId>
         ensures found { IfSome result (λ id. (id < OBJECTS) × (is_used self.now (index_of (Object id)) ≡ false)) }
-        ensures least { IfSome result (λ id. (other : ℕ) → other < id → is_used self.now (index_of (Object other)) ≡ true) }
+        ensures least { IfSome result (λ id.
+            (other : ℕ) → other < id → is_used self.now (index_of (Object other)) ≡ true) }
         ensures none { IsNone result ↔ ((id : ℕ) → id < OBJECTS → is_used self.now (index_of (Object id)) ≡ true) }
     {
         let number = least(&self.free_numbers(), 0, OBJECT_WORDS)?;
@@ -122,7 +124,8 @@ impl Numbers {
     /// none.
     pub fn least_free_page(&self) -> Option<PageNo>
         ensures found { IfSome result (λ page. (page < PAGES) × (is_used self.now (index_of (Page page)) ≡ false)) }
-        ensures least { IfSome result (λ page. (other : ℕ) → other < page → is_used self.now (index_of (Page other)) ≡ true) }
+        ensures least { IfSome result (λ page.
+            (other : ℕ) → other < page → is_used self.now (index_of (Page other)) ≡ true) }
         ensures none { IsNone result ↔ ((page : ℕ) → page < PAGES → is_used self.now (index_of (Page page)) ≡ true) }
     {
         let number = least(&self.free_numbers(), OBJECT_WORDS, BASE_WORDS)?;
@@ -141,7 +144,7 @@ impl Numbers {
         requires range { id < OBJECTS }
         requires free { is_used self.old (index_of (Object id)) ≡ false }
         ensures taken { has self.new.running (index_of (Object id)) ≡ true }
-        ensures others { (n : ℕ) → n < NUMBERS → n ≢ index_of (Object id) → has self.new.running n ≡ has self.old.running n }
+        ensures others { SameBut (index_of (Object id)) self.old.running self.new.running }
         ensures work { self.new.work ≡ self.old.work }
     {
         put(&mut self.running, id as usize, true);
@@ -152,18 +155,18 @@ impl Numbers {
         requires range { page < PAGES }
         requires free { is_used self.old (index_of (Page page)) ≡ false }
         ensures taken { has self.new.running (index_of (Page page)) ≡ true }
-        ensures others { (n : ℕ) → n < NUMBERS → n ≢ index_of (Page page) → has self.new.running n ≡ has self.old.running n }
+        ensures others { SameBut (index_of (Page page)) self.old.running self.new.running }
         ensures work { self.new.work ≡ self.old.work }
     {
         put(&mut self.running, OBJECTS + page as usize, true);
     }
 
-    /// Notes that an object number is no more in use in the running state. Where it is in use in the committed one, it is
-    /// free from the next commit on.
+    /// Notes that an object number is no more in use in the running state. Where it is in use in the committed one, it
+    /// is free from the next commit on.
     pub fn note_free_object(&mut self, id: ObjId)
         requires { id < OBJECTS }
         ensures freed { has self.new.running (index_of (Object id)) ≡ false }
-        ensures others { (n : ℕ) → n < NUMBERS → n ≢ index_of (Object id) → has self.new.running n ≡ has self.old.running n }
+        ensures others { SameBut (index_of (Object id)) self.old.running self.new.running }
         ensures work { self.new.work ≡ self.old.work }
     {
         put(&mut self.running, id as usize, false);
@@ -174,15 +177,15 @@ impl Numbers {
     pub fn note_free_page(&mut self, page: PageNo)
         requires { page < PAGES }
         ensures freed { has self.new.running (index_of (Page page)) ≡ false }
-        ensures others { (n : ℕ) → n < NUMBERS → n ≢ index_of (Page page) → has self.new.running n ≡ has self.old.running n }
+        ensures others { SameBut (index_of (Page page)) self.old.running self.new.running }
         ensures work { self.new.work ≡ self.old.work }
     {
         put(&mut self.running, OBJECTS + page as usize, false);
     }
 
-    /// Writes the log of the next version, in which the numbers are in use that are so in the running state at the first
-    /// of these steps. Where the log of the committed version isn't cleared yet, it goes on with that first. True exactly
-    /// when the log is durable, so that the next version may be committed.
+    /// Writes the log of the next version, in which the numbers are in use that are so in the running state at the
+    /// first of these steps. Where the log of the committed version isn't cleared yet, it goes on with that first. True
+    /// exactly when the log is durable, so that the next version may be committed.
     pub fn log_step(&mut self, nvm: &mut Pmem) -> bool
         requires version { self.old.work.version < LAST_VERSION }
         requires home { IsTrue (is_at_home nvm.old 0) }
@@ -221,17 +224,20 @@ impl Numbers {
         ensures version { self.new.work.version ≡ (once_committed self.old.work).version }
         ensures running { self.new.running ≡ self.old.running }
         ensures logged { self.new.work.logged ≡ self.old.work.logged }
-        ensures shows { (v : ℕ) (saved : ℕ → Bool) → NumbersShow (once_committed self.old.work) (word_at nvm.old) v saved
+        ensures shows { (v : ℕ) (saved : ℕ → Bool)
+            → NumbersShow (once_committed self.old.work) (word_at nvm.old) v saved
             → NumbersShow self.new.work (word_at nvm.new) v saved }
-        ensures exact { (v : ℕ) (saved : ℕ → Bool) → NumbersShow (once_committed self.old.work) (word_at nvm.old) v saved
+        ensures exact { (v : ℕ) (saved : ℕ → Bool)
+            → NumbersShow (once_committed self.old.work) (word_at nvm.old) v saved
             → IsExact (once_committed self.old.work) saved → IsExact self.new.work saved }
     {
         self.journal.commit();
         self.journal.redo_step(nvm)
     }
 
-    /// After a cut, brings the base up to date by the log where its head names the committed version, and clears the log.
-    /// The running state is the committed one from then on. True exactly at the last, and where there is nothing to do.
+    /// After a cut, brings the base up to date by the log where its head names the committed version, and clears the
+    /// log. The running state is the committed one from then on. True exactly at the last, and where there is nothing to
+    /// do.
     pub fn redo_step(&mut self, nvm: &mut Pmem) -> bool
         requires { IsTrue (is_at_home nvm.old 0) }
         ensures homes { SameHomes nvm.old nvm.new }

@@ -9,25 +9,23 @@ use Rattle.alloc_journal.proofs.journal.Journal.log_entry.Goals as goal
 
 pub returns-in-Some-clause-rest : goal.returns-in-Some-clause-rest
 returns-in-Some-clause-rest c =
-    let found = c.in-Some.ensures.found in
-    let few = c.requires.kept.room c.requires.stage c.in-Some.number (found.1) found.2 in
+    let inside = c.in-Some.ensures.inside.1 in
+    let few = c.requires.kept.room c.requires.stage c.in-Some.number inside c.in-Some.ensures.found in
     let f = word_at c.args.nvm.now in let g = word_at c.store.new.nvm in
     let stored : IsStored f g (log_entry_at c.args.self.now.entries) c.entry_word.result =
     subst (λ (p : ℕ). IsStored f g p c.entry_word.result) c.log_entry_at.ensures.at c.store.ensures.words in
-    let inside = found.1 in
     stored_only f g (log_entry_at c.args.self.now.entries) c.entry_word.result (owner_entry c.args.self.now.entries (omega (arith, few, inside))) stored
 
 pub returns-in-Some-clause-shows : goal.returns-in-Some-clause-shows
 returns-in-Some-clause-shows c = λ v saved h.
-    let found = c.in-Some.ensures.found in
-    let few = c.requires.kept.room c.requires.stage c.in-Some.number (found.1) found.2 in
+    let inside = c.in-Some.ensures.inside.1 in
+    let few = c.requires.kept.room c.requires.stage c.in-Some.number inside c.in-Some.ensures.found in
     let f = word_at c.args.nvm.now in let g = word_at c.store.new.nvm in
     let stored : IsStored f g (log_entry_at c.args.self.now.entries) c.entry_word.result =
     subst (λ (p : ℕ). IsStored f g p c.entry_word.result) c.log_entry_at.ensures.at c.store.ensures.words in
-    let inside = found.1 in
     let says = c.entry_word.ensures.comes in
     entry_stored (work_of c.args.self.now) f g v saved c.in-Some.number c.entry_word.result c.put.new.bits c.requires.stage
-    (omega (arith, few, inside)) inside found.2 (λ m lt. c.in-Some.ensures.least m (omega arith) lt) c.put.ensures.changed c.put.ensures.others
+    (omega (arith, few, inside)) inside c.in-Some.ensures.found (λ m lt. c.in-Some.ensures.least m (omega arith) lt) c.put.ensures.changed c.put.ensures.others
     c.entry_word.ensures.number (says ∙ c.has-comes.ensures) stored h
 
 pub returns-in-None-clause-rest : goal.returns-in-None-clause-rest

@@ -5,12 +5,12 @@ use Rattle.alloc_journal.proofs.numbers.Numbers.least_free_page.Goals as goal
 
 pub returns-clause-none : goal.returns-clause-none
 returns-clause-none c =
-    let found = c.in_ok-number.ensures.found in
+    let inside = c.in_ok-number.ensures.inside in
     let number = c.in_ok-number.number in
-    let low = found.0 in let high = found.1 in
+    let low = inside.0 in let high = inside.1 in
     let at : OBJECTS + (number - OBJECTS) ≡ number = omega (arith, low) in (
       λ no. cc,
       λ all.
           let used = subst (λ n. is_used c.args.self.now n ≡ true) at (all (number - OBJECTS) (omega (arith, low, high))) in
-          sym found.2 ∙ c.free_numbers.ensures number high ∙ ap not used,
+          sym c.in_ok-number.ensures.found ∙ c.free_numbers.ensures number high ∙ ap not used,
     )
