@@ -1,4 +1,5 @@
 pub mod SetLemmas
+pub mod KeptLemmas
 pub mod Words
 pub mod RedoLemmas
 pub mod ShowLemmas

@@ -1,11 +1,11 @@
 -- What contracts see of the numbers in use, and how far the work on the memory has come.
-use Rattle.std.specs.Prelude.{◌≡◌, ℕ, ◌+◌, ◌<◌, ◌≤◌, ◌||◌, Bool, true, false, if◌then◌else◌, List}
+use Rattle.std.specs.Prelude.{◌≡◌, ℕ, ◌+◌, ◌-◌, ◌<◌, ◌≤◌, ◌||◌, Bool, true, false, if◌then◌else◌, List}
 use Rattle.sls_base.specs.declared.limits.TheConstants.{LAST_VERSION}
 use Rattle.pmem_layout.specs.declared.places.TheConstants.{NUMBERS}
 use Rattle.alloc_journal.specs.declared.journal.Stage.{Stage}
 use Rattle.alloc_journal.specs.declared.journal.Stage.TheVariants.{Unformatted, FirstStored, FirstInFlight, StoringEntries, EntriesInFlight, EntriesDurable, HeadStored, HeadInFlight, Logged, Redoing, BaseInFlight, BaseDurable, HeadCleared, ClearInFlight}
 use Rattle.alloc_journal.specs.declared.journal.Journal.{Journal}
-use Rattle.alloc_journal.specs.Sets.{has}
+use Rattle.alloc_journal.specs.Sets.{has, count_of, changes}
 
 -- the committed version; the numbers that are in use at it, those that are to be in use at the next one, and those that
 -- an entry is still to be stored for; the stage; how many entries the log has, and how many of them are redone
@@ -68,10 +68,46 @@ abbrev pub is_logged : Stage → Bool
 is_logged Logged = true
 is_logged _ = false
 
+-- How many steps are left: one for each entry that is still to be stored or redone, and five that flush, fence, and store
+-- or clear the head.
+
+abbrev pub log_left_at : Stage → ℕ → ℕ
+log_left_at StoringEntries pending = pending + 5
+log_left_at EntriesInFlight pending = 4
+log_left_at EntriesDurable pending = 3
+log_left_at HeadStored pending = 2
+log_left_at HeadInFlight pending = 1
+log_left_at _ pending = 0
+
+abbrev pub log_left : Work → ℕ
+log_left w = log_left_at w.stage (count_of (has w.pending) NUMBERS)
+
+abbrev pub redo_left_at : Stage → ℕ → ℕ
+redo_left_at Redoing entries = entries + 5
+redo_left_at BaseInFlight entries = 4
+redo_left_at BaseDurable entries = 3
+redo_left_at HeadCleared entries = 2
+redo_left_at ClearInFlight entries = 1
+redo_left_at _ entries = 0
+
+abbrev pub redo_left : Work → ℕ
+redo_left w = redo_left_at w.stage (w.entries - w.redone)
+
+-- each number that changes has an entry, stored or still to be stored
+abbrev pub HasEntries : Stage → Work → Type 0
+HasEntries StoringEntries w = w.entries + count_of (has w.pending) NUMBERS ≡ changes w.committed w.logged
+HasEntries EntriesInFlight w = w.entries ≡ changes w.committed w.logged
+HasEntries EntriesDurable w = w.entries ≡ changes w.committed w.logged
+HasEntries HeadStored w = w.entries ≡ changes w.committed w.logged
+HasEntries HeadInFlight w = w.entries ≡ changes w.committed w.logged
+HasEntries Logged w = w.entries ≡ changes w.committed w.logged
+HasEntries _ w = Unit {0}
+
 -- what the private fields keep
 pub record IsKept (w : Work) : Type 0 where
   pub most : w.entries ≤ NUMBERS
   pub room : w.stage ≡ StoringEntries → (n : ℕ) → n < NUMBERS → has w.pending n ≡ true → w.entries ≤ n
+  pub has_entries : HasEntries w.stage w
   pub version : w.version ≤ LAST_VERSION
   pub next_version : is_logging w.stage ≡ true → w.version < LAST_VERSION
 

@@ -10,10 +10,11 @@ ghost use Rattle.pmem_layout.specs.Fields.{log_count};
 ghost use Rattle.alloc_journal.specs.declared.journal.Stage.TheVariants.{Unformatted, Rest, StoringEntries, Logged, Redoing};
 ghost use Rattle.pmem_layout.specs.Places as places;
 ghost use Rattle.alloc_journal.specs.Format.{NumbersStand};
-ghost use Rattle.alloc_journal.specs.Work.{work_of, once_committed, is_redo, is_formatting, IsKept, IsExact};
+ghost use Rattle.alloc_journal.specs.Work.{work_of, once_committed, is_redo, is_logging, is_formatting, log_left, redo_left, IsKept, IsExact};
 ghost use Rattle.alloc_journal.specs.Formatting.{FormatShows};
 ghost use Rattle.alloc_journal.specs.Shows.{NumbersShow};
 ghost use Rattle.alloc_journal.specs.Sets as sets;
+ghost use Rattle.alloc_journal.specs.Sets.{changes};
 ghost use Rattle.alloc_journal.specs.Says.{Says};
 
 use crate::bits::{BASE_WORDS, Bits, differing, has, least, put};
@@ -177,6 +178,10 @@ impl Journal {
         ensures home { IsTrue (is_at_home nvm.new 0) }
         ensures rest { StoresOnlyIn Numbers (word_at nvm.old) (word_at nvm.new) }
         ensures last { IsTrue result ↔ (self.new.stage ≡ Logged) }
+        ensures first { self.old.stage ≡ Rest → log_left (work_of self.new) ≡ changes self.old.committed running.now + 4 }
+        ensures left { is_logging self.old.stage ≡ true → self.old.stage ≢ Logged
+            → log_left (work_of self.old) ≡ log_left (work_of self.new) + 1 }
+        ensures entries { IsTrue result → self.new.entries ≡ changes self.new.committed self.new.logged }
         ensures version { self.new.version ≡ self.old.version }
         ensures begun { self.old.stage ≡ Rest → self.new.logged ≡ running.now }
         ensures logged { self.old.stage ≢ Rest → self.new.logged ≡ self.old.logged }
@@ -233,6 +238,7 @@ impl Journal {
         ensures version { self.new.version ≡ self.old.version }
         ensures committed { self.new.committed ≡ self.old.committed }
         ensures logged { self.new.logged ≡ running.now }
+        ensures left { log_left (work_of self.new) ≡ changes self.old.committed running.now + 5 }
         ensures shows { (f : ℕ → Word) (v : ℕ) (saved : ℕ → Bool) → NumbersShow (work_of self.old) f v saved
             → NumbersShow (work_of self.new) f v saved }
     {
@@ -252,6 +258,7 @@ impl Journal {
         ensures home { IsTrue (is_at_home nvm.new 0) }
         ensures rest { StoresOnlyIn Numbers (word_at nvm.old) (word_at nvm.new) }
         ensures stage { self.new.stage ≢ Logged }
+        ensures left { log_left (work_of self.old) ≡ log_left (work_of self.new) + 1 }
         ensures version { self.new.version ≡ self.old.version }
         ensures committed { self.new.committed ≡ self.old.committed }
         ensures logged { self.new.logged ≡ self.old.logged }
@@ -295,6 +302,7 @@ impl Journal {
         ensures home { IsTrue (is_at_home nvm.new 0) }
         ensures rest { StoresOnlyIn Numbers (word_at nvm.old) (word_at nvm.new) }
         ensures last { IsTrue result ↔ (is_redo self.new.stage ≡ false) }
+        ensures left { is_redo self.old.stage ≡ true → redo_left (work_of self.old) ≡ redo_left (work_of self.new) + 1 }
         ensures version { self.new.version ≡ self.old.version }
         ensures logged { self.new.logged ≡ self.old.logged }
         ensures not_logged { self.old.stage ≢ Logged → self.new.stage ≢ Logged }
@@ -344,6 +352,7 @@ impl Journal {
         ensures home { IsTrue (is_at_home nvm.new 0) }
         ensures rest { StoresOnlyIn Numbers (word_at nvm.old) (word_at nvm.new) }
         ensures redo { is_redo self.new.stage ≡ true }
+        ensures left { redo_left (work_of self.old) ≡ redo_left (work_of self.new) + 1 }
         ensures version { self.new.version ≡ self.old.version }
         ensures logged { self.new.logged ≡ self.old.logged }
         ensures shows { (v : ℕ) (saved : ℕ → Bool) → NumbersShow (work_of self.old) (word_at nvm.old) v saved
@@ -374,6 +383,7 @@ impl Journal {
         ensures home { IsTrue (is_at_home nvm.new 0) }
         ensures rest { StoresOnlyIn Numbers (word_at nvm.old) (word_at nvm.new) }
         ensures stage { self.new.stage ≡ Redoing }
+        ensures left { redo_left (work_of self.old) ≡ redo_left (work_of self.new) + 1 }
         ensures version { self.new.version ≡ self.old.version }
         ensures logged { self.new.logged ≡ self.old.logged }
         ensures shows { (v : ℕ) (saved : ℕ → Bool)

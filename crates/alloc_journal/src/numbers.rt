@@ -10,9 +10,9 @@ ghost use Rattle.pmem_layout.specs.Owners as owners;
 ghost use Rattle.pmem_layout.specs.Owners.{owner};
 ghost use Rattle.pmem_layout.specs.Rooms.{StoresOnlyIn};
 ghost use Rattle.alloc_journal.specs.declared.journal.Stage.TheVariants.{Unformatted, Rest, Logged};
-ghost use Rattle.alloc_journal.specs.Sets.{has, SameBut};
+ghost use Rattle.alloc_journal.specs.Sets.{has, SameBut, changes};
 ghost use Rattle.alloc_journal.specs.Format.{NumbersStand};
-ghost use Rattle.alloc_journal.specs.Work.{is_used, once_committed, is_redo, is_formatting, IsExact};
+ghost use Rattle.alloc_journal.specs.Work.{is_used, once_committed, is_redo, is_logging, is_formatting, log_left, redo_left, IsExact};
 ghost use Rattle.alloc_journal.specs.Formatting.{FormatShows};
 ghost use Rattle.alloc_journal.specs.Shows.{NumbersShow};
 
@@ -193,6 +193,11 @@ impl Numbers {
         ensures home { IsTrue (is_at_home nvm.new 0) }
         ensures rest { StoresOnlyIn owners.Numbers (word_at nvm.old) (word_at nvm.new) }
         ensures last { IsTrue result ↔ (self.new.work.stage ≡ Logged) }
+        ensures first { self.old.work.stage ≡ Rest
+            → log_left self.new.work ≡ changes self.old.work.committed self.old.running + 4 }
+        ensures left { is_logging self.old.work.stage ≡ true → self.old.work.stage ≢ Logged
+            → log_left self.old.work ≡ log_left self.new.work + 1 }
+        ensures entries { IsTrue result → self.new.work.entries ≡ changes self.new.work.committed self.new.work.logged }
         ensures version { self.new.work.version ≡ self.old.work.version }
         ensures running { self.new.running ≡ self.old.running }
         ensures begun { self.old.work.stage ≡ Rest → self.new.work.logged ≡ self.old.running }
@@ -221,6 +226,8 @@ impl Numbers {
         ensures home { IsTrue (is_at_home nvm.new 0) }
         ensures rest { StoresOnlyIn owners.Numbers (word_at nvm.old) (word_at nvm.new) }
         ensures last { IsTrue result ↔ (is_redo self.new.work.stage ≡ false) }
+        ensures left { is_redo (once_committed self.old.work).stage ≡ true
+            → redo_left (once_committed self.old.work) ≡ redo_left self.new.work + 1 }
         ensures version { self.new.work.version ≡ (once_committed self.old.work).version }
         ensures running { self.new.running ≡ self.old.running }
         ensures logged { self.new.work.logged ≡ self.old.work.logged }
@@ -244,6 +251,7 @@ impl Numbers {
         ensures home { IsTrue (is_at_home nvm.new 0) }
         ensures rest { StoresOnlyIn owners.Numbers (word_at nvm.old) (word_at nvm.new) }
         ensures last { IsTrue result ↔ (is_redo self.new.work.stage ≡ false) }
+        ensures left { is_redo self.old.work.stage ≡ true → redo_left self.old.work ≡ redo_left self.new.work + 1 }
         ensures version { self.new.work.version ≡ self.old.work.version }
         ensures running { self.new.running ≡ self.new.work.committed }
         ensures shows { (v : ℕ) (saved : ℕ → Bool) → NumbersShow self.old.work (word_at nvm.old) v saved
