@@ -3,9 +3,8 @@
 use Rattle.std.specs.Prelude.{◌≡◌, ℕ, zero, suc, ◌/◌, ◌%◌, ◌<◌, ◌≤◌, ◌==◌, if◌then◌else◌, Bool}
 use Rattle.pmem_layout.specs.declared.places.TheConstants.{LOG_HEAD_AT, NUMBERS}
 use Rattle.pmem_layout.specs.Places.{log_entry_at}
-use Rattle.pmem_layout.specs.Numbers.{base_at}
+use Rattle.pmem_layout.specs.Numbers.{in_base}
 use Rattle.pmem_layout.specs.Fields.{log_count}
-use Rattle.alloc_journal.specs.Sets.{bit_of}
 
 -- what an entry of the log says: its number, and whether that is in use from then on
 abbrev pub number_of : ℕ → ℕ
@@ -16,7 +15,7 @@ comes entry = entry % 2 == 1
 
 -- what the base says of a number
 abbrev pub base_bit : (ℕ → ℕ) → ℕ → Bool
-base_bit words n = bit_of (words (base_at n)) n
+base_bit words n = in_base words n == 1
 
 -- whether a number is in use after the first entries, from what was said before them
 abbrev pub redone : (ℕ → ℕ) → ℕ → Bool → ℕ → Bool

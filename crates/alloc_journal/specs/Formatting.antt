@@ -4,7 +4,7 @@ use Rattle.pmem_model.specs.Words.{Word}
 use Rattle.pmem_model.specs.Events.{Kind, Any, Cached, Ready, Clean, WordIs}
 use Rattle.pmem_layout.specs.declared.places.TheConstants.{LOG_HEAD_AT, OBJECT_BASE_AT}
 use Rattle.alloc_journal.specs.declared.bits.TheConstants.{BASE_WORDS}
-use Rattle.alloc_journal.specs.declared.memory.TheConstants.{LEADER}
+use Rattle.sls_base.specs.declared.fixed.TheConstants.{LEADER}
 use Rattle.alloc_journal.specs.declared.journal.Stage.{Stage}
 use Rattle.alloc_journal.specs.declared.journal.Stage.TheVariants.{Unformatted, FirstStored, FirstInFlight}
 use Rattle.alloc_journal.specs.Work.{Work}

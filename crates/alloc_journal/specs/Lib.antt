@@ -1,5 +1,6 @@
 pub mod Sets
 pub mod Format
+pub mod Operations
 pub mod Says
 pub mod Work
 pub mod Shows

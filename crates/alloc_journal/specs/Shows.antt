@@ -7,7 +7,7 @@ use Rattle.pmem_layout.specs.Places.{log_entry_at}
 use Rattle.pmem_layout.specs.Numbers.{base_at}
 use Rattle.pmem_layout.specs.Fields.{log_count}
 use Rattle.alloc_journal.specs.declared.bits.TheConstants.{BASE_WORDS}
-use Rattle.alloc_journal.specs.declared.memory.TheConstants.{LEADER}
+use Rattle.sls_base.specs.declared.fixed.TheConstants.{LEADER}
 use Rattle.alloc_journal.specs.declared.journal.Stage.{Stage}
 use Rattle.alloc_journal.specs.declared.journal.Stage.TheVariants.{Rest, StoringEntries, EntriesInFlight, EntriesDurable, HeadStored, HeadInFlight, Logged, Redoing, BaseInFlight, BaseDurable, HeadCleared, ClearInFlight}
 use Rattle.alloc_journal.specs.Sets.{bit_of, has}

@@ -2,7 +2,7 @@
 
 ghost use Rattle.std.specs.Prelude.{◌≡◌, ◌≢◌, ◌+◌, ◌*◌, ◌^◌, ◌<◌, ◌≤◌, ◌↔◌, ℕ, Bool, IsTrue, true, false, slice_index};
 ghost use Rattle.pmem_model.specs.Words.{Word};
-ghost use Rattle.pmem_model.specs.Memory.{word_at, is_at_home, SameHomes};
+ghost use Rattle.pmem_model.specs.Memory.{word_at, SameHomes};
 ghost use Rattle.pmem_model.specs.Events.{WordIs, Clean};
 ghost use Rattle.pmem_layout.specs.Owners.{Numbers, owner};
 ghost use Rattle.pmem_layout.specs.Rooms.{StoresOnlyIn};
@@ -12,6 +12,7 @@ ghost use Rattle.pmem_layout.specs.Places as places;
 ghost use Rattle.alloc_journal.specs.Format.{NumbersStand};
 ghost use Rattle.alloc_journal.specs.Work.{work_of, once_committed, is_redo, is_logging, is_formatting, log_left, redo_left, IsKept, IsExact};
 ghost use Rattle.alloc_journal.specs.Formatting.{FormatShows};
+ghost use Rattle.alloc_journal.specs.Operations.{AtMostOne};
 ghost use Rattle.alloc_journal.specs.Shows.{NumbersShow};
 ghost use Rattle.alloc_journal.specs.Sets as sets;
 ghost use Rattle.alloc_journal.specs.Sets.{changes};
@@ -19,13 +20,13 @@ ghost use Rattle.alloc_journal.specs.Says.{Says};
 
 use crate::bits::{BASE_WORDS, Bits, differing, has, least, put};
 use crate::entry::{Change, change_of, entry_word};
-use crate::memory::{LEADER, fence, flush, read, store, store_words};
+use crate::memory::{fence, flush, read, store, store_words};
 use pmem_layout::{
     BASE_BITS, EMPTY_WORD, LOG_ENTRIES_AT, LOG_HEAD_AT, LogHead, NUMBERS, OBJECT_BASE_AT,
     log_entry_at,
 };
 use pmem_model::Pmem;
-use sls_base::{LAST_VERSION, LINE_WORDS, Version};
+use sls_base::{LAST_VERSION, LEADER, LINE_WORDS, Version};
 
 /// The lines that the base stands in.
 const BASE_LINES: usize = (BASE_WORDS + LINE_WORDS - 1) / LINE_WORDS;
@@ -97,10 +98,9 @@ impl Journal {
     /// Stores these numbers as the first base. One operation; true at the last, and where there is a base already.
     pub fn format_step(&mut self, nvm: &mut Pmem, running: &Bits) -> bool
         requires kept { IsKept (work_of self.old) }
-        requires home { IsTrue (is_at_home nvm.old 0) }
         ensures kept { IsKept (work_of self.new) }
         ensures homes { SameHomes nvm.old nvm.new }
-        ensures home { IsTrue (is_at_home nvm.new 0) }
+        ensures one { AtMostOne nvm.old nvm.new }
         ensures rest { StoresOnlyIn Numbers (word_at nvm.old) (word_at nvm.new) }
         ensures last { IsTrue result ↔ (is_formatting self.new.stage ≡ false) }
         ensures begun { self.old.stage ≡ Unformatted → self.new.committed ≡ running.now }
@@ -132,7 +132,6 @@ impl Journal {
 
     /// The work that is left to do on a memory after a cut: what its log says is to be redone.
     pub fn recover(nvm: &Pmem, version: Version) -> Journal
-        requires home { IsTrue (is_at_home nvm.now 0) }
         requires version { version ≤ LAST_VERSION }
         ensures kept { IsKept (work_of result) }
         ensures version { result.version ≡ version }
@@ -172,10 +171,9 @@ impl Journal {
     pub fn log_step(&mut self, nvm: &mut Pmem, running: &Bits) -> bool
         requires kept { IsKept (work_of self.old) }
         requires version { self.old.version < LAST_VERSION }
-        requires home { IsTrue (is_at_home nvm.old 0) }
         ensures kept { IsKept (work_of self.new) }
         ensures homes { SameHomes nvm.old nvm.new }
-        ensures home { IsTrue (is_at_home nvm.new 0) }
+        ensures one { AtMostOne nvm.old nvm.new }
         ensures rest { StoresOnlyIn Numbers (word_at nvm.old) (word_at nvm.new) }
         ensures last { IsTrue result ↔ (self.new.stage ≡ Logged) }
         ensures first { self.old.stage ≡ Rest → log_left (work_of self.new) ≡ changes self.old.committed running.now + 4 }
@@ -251,11 +249,10 @@ impl Journal {
     /// Stores the entry of the least number that has changed and has none yet, or flushes all entries.
     fn log_entry(&mut self, nvm: &mut Pmem)
         requires kept { IsKept (work_of self.old) }
-        requires home { IsTrue (is_at_home nvm.old 0) }
         requires stage { self.old.stage ≡ StoringEntries }
         ensures kept { IsKept (work_of self.new) }
         ensures homes { SameHomes nvm.old nvm.new }
-        ensures home { IsTrue (is_at_home nvm.new 0) }
+        ensures one { AtMostOne nvm.old nvm.new }
         ensures rest { StoresOnlyIn Numbers (word_at nvm.old) (word_at nvm.new) }
         ensures stage { self.new.stage ≢ Logged }
         ensures left { log_left (work_of self.old) ≡ log_left (work_of self.new) + 1 }
@@ -296,10 +293,9 @@ impl Journal {
     /// and where there is nothing to redo.
     pub fn redo_step(&mut self, nvm: &mut Pmem) -> bool
         requires kept { IsKept (work_of self.old) }
-        requires home { IsTrue (is_at_home nvm.old 0) }
         ensures kept { IsKept (work_of self.new) }
         ensures homes { SameHomes nvm.old nvm.new }
-        ensures home { IsTrue (is_at_home nvm.new 0) }
+        ensures one { AtMostOne nvm.old nvm.new }
         ensures rest { StoresOnlyIn Numbers (word_at nvm.old) (word_at nvm.new) }
         ensures last { IsTrue result ↔ (is_redo self.new.stage ≡ false) }
         ensures left { is_redo self.old.stage ≡ true → redo_left (work_of self.old) ≡ redo_left (work_of self.new) + 1 }
@@ -345,11 +341,10 @@ impl Journal {
     /// Redoes the next entry on the base, or flushes the base behind the last one.
     fn redo_entry(&mut self, nvm: &mut Pmem)
         requires kept { IsKept (work_of self.old) }
-        requires home { IsTrue (is_at_home nvm.old 0) }
         requires stage { self.old.stage ≡ Redoing }
         ensures kept { IsKept (work_of self.new) }
         ensures homes { SameHomes nvm.old nvm.new }
-        ensures home { IsTrue (is_at_home nvm.new 0) }
+        ensures one { AtMostOne nvm.old nvm.new }
         ensures rest { StoresOnlyIn Numbers (word_at nvm.old) (word_at nvm.new) }
         ensures redo { is_redo self.new.stage ≡ true }
         ensures left { redo_left (work_of self.old) ≡ redo_left (work_of self.new) + 1 }
@@ -374,13 +369,12 @@ impl Journal {
     /// Redoes what the next entry says.
     fn redo_change(&mut self, nvm: &mut Pmem, change: Change)
         requires kept { IsKept (work_of self.old) }
-        requires home { IsTrue (is_at_home nvm.old 0) }
         requires stage { self.old.stage ≡ Redoing }
         requires some { self.old.redone < self.old.entries }
         requires number { change.number < NUMBERS }
         ensures kept { IsKept (work_of self.new) }
         ensures homes { SameHomes nvm.old nvm.new }
-        ensures home { IsTrue (is_at_home nvm.new 0) }
+        ensures one { AtMostOne nvm.old nvm.new }
         ensures rest { StoresOnlyIn Numbers (word_at nvm.old) (word_at nvm.new) }
         ensures stage { self.new.stage ≡ Redoing }
         ensures left { redo_left (work_of self.old) ≡ redo_left (work_of self.new) + 1 }
@@ -404,7 +398,6 @@ impl Journal {
 
 /// The words of the base.
 fn read_base(nvm: &Pmem) -> Bits
-    requires { IsTrue (is_at_home nvm.now 0) }
     ensures { (k : ℕ) → k < BASE_WORDS → slice_index result k ≡ (word_at nvm.now (OBJECT_BASE_AT + k)).cached }
 {
     let mut base = [0; BASE_WORDS];

@@ -8,12 +8,12 @@ ghost use Rattle.pmem_layout.specs.Rooms.{CalmIn, FencedIn, LeftIn, SameIn};
 ghost use Rattle.alloc_journal.specs.declared.journal.Stage.TheVariants.{Rest, Logged, Redoing};
 ghost use Rattle.alloc_journal.specs.Sets.{has};
 ghost use Rattle.alloc_journal.specs.Format.{NumbersStand};
-ghost use Rattle.alloc_journal.specs.Work.{Work, as_committed, IsExact};
+ghost use Rattle.alloc_journal.specs.Work.{Work, as_committed, once_committed, IsExact};
 ghost use Rattle.alloc_journal.specs.Shows.{NumbersShow};
 ghost use Rattle.alloc_journal.specs.Formatting.{FormatShows};
 
-use crate::memory::LEADER;
 use pmem_layout::NUMBERS;
+use sls_base::LEADER;
 
 /// What is known outlives events that store nothing in the numbers' words: flushes and fences of any core, write-backs,
 /// and the steps of others.
@@ -35,6 +35,7 @@ pub fn commits()
     ensures shows { (w : Work) (f : ℕ → Word) (v : ℕ) (saved : ℕ → Bool) → w.stage ≡ Logged
         → NumbersShow w f v saved → NumbersShow (as_committed w) f (v + 1) (has w.logged) }
     ensures exact { (w : Work) → IsExact (as_committed w) (has w.logged) }
+    ensures once { (w : Work) → w.stage ≡ Logged → once_committed w ≡ as_committed w }
     ensures stands { (w : Work) (f : ℕ → Word) (left : ℕ → ℕ) (v : ℕ) (saved : ℕ → Bool) → w.stage ≡ Logged
         → LeftIn Numbers f left → NumbersShow w f v saved → NumbersStand left (v + 1) (has w.logged) }
 {}

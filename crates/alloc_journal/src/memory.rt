@@ -2,24 +2,20 @@
 
 ghost use Rattle.std.specs.Prelude.{◌≡◌, ◌+◌, ◌*◌, ◌%◌, ◌<◌, ◌≤◌, ℕ, IsTrue, List, [], ◌∷◌, length, slice_index};
 ghost use Rattle.pmem_model.specs.Words.{bursts, flushes, fences};
-ghost use Rattle.pmem_model.specs.Memory.{word_at, is_at_home, SameHomes};
+ghost use Rattle.pmem_model.specs.Memory.{word_at, SameHomes, count_up};
 
 use pmem_model::Pmem;
-use sls_base::{CoreNo, FRAME_WORDS, LINE_WORDS, TABLE_WORDS};
-
-/// The core that does it.
-pub const LEADER: CoreNo = 0;
+use sls_base::{FRAME_WORDS, LEADER, LINE_WORDS, TABLE_WORDS};
 
 /// Stores words behind one another.
 pub fn store_words(nvm: &mut Pmem, at: usize, words: &[u64])
     requires some { 0 < length words.now }
     requires most { length words.now ≤ FRAME_WORDS }
     requires in_table { at + length words.now ≤ TABLE_WORDS }
-    requires home { IsTrue (is_at_home nvm.old 0) }
     ensures words { (i : ℕ) → word_at nvm.new i
         ≡ bursts at (length words.now) (slice_index words.now) (word_at nvm.old) i }
     ensures homes { SameHomes nvm.old nvm.new }
-    ensures home { IsTrue (is_at_home nvm.new 0) }
+    ensures one { nvm.new.ops ≡ count_up nvm.old.ops }
 {
     nvm.burst(at, words);
 }
@@ -27,10 +23,9 @@ pub fn store_words(nvm: &mut Pmem, at: usize, words: &[u64])
 /// Stores a word.
 pub fn store(nvm: &mut Pmem, at: usize, word: u64)
     requires in_table { at < TABLE_WORDS }
-    requires home { IsTrue (is_at_home nvm.old 0) }
     ensures words { (i : ℕ) → word_at nvm.new i ≡ bursts at 1 (slice_index (word ∷ [])) (word_at nvm.old) i }
     ensures homes { SameHomes nvm.old nvm.new }
-    ensures home { IsTrue (is_at_home nvm.new 0) }
+    ensures one { nvm.new.ops ≡ count_up nvm.old.ops }
 {
     store_words(nvm, at, &[word]);
 }
@@ -40,20 +35,18 @@ pub fn flush(nvm: &mut Pmem, at: usize, lines: usize)
     requires line { at % LINE_WORDS ≡ 0 }
     requires some { 0 < lines }
     requires in_table { at + LINE_WORDS * lines ≤ TABLE_WORDS }
-    requires home { IsTrue (is_at_home nvm.old 0) }
     ensures words { (i : ℕ) → word_at nvm.new i ≡ flushes LEADER at (LINE_WORDS * lines) (word_at nvm.old) i }
     ensures homes { SameHomes nvm.old nvm.new }
-    ensures home { IsTrue (is_at_home nvm.new 0) }
+    ensures one { nvm.new.ops ≡ count_up nvm.old.ops }
 {
     nvm.flush(LEADER, at, lines);
 }
 
 /// Makes durable what this core has flushed.
 pub fn fence(nvm: &mut Pmem)
-    requires { IsTrue (is_at_home nvm.old 0) }
     ensures words { (i : ℕ) → word_at nvm.new i ≡ fences LEADER (word_at nvm.old) i }
     ensures homes { SameHomes nvm.old nvm.new }
-    ensures home { IsTrue (is_at_home nvm.new 0) }
+    ensures one { nvm.new.ops ≡ count_up nvm.old.ops }
 {
     nvm.fence(LEADER);
 }
@@ -61,7 +54,6 @@ pub fn fence(nvm: &mut Pmem)
 /// Reads a word.
 pub fn read(nvm: &Pmem, at: usize) -> u64
     requires in_table { at < TABLE_WORDS }
-    requires home { IsTrue (is_at_home nvm.now 0) }
     ensures { result ≡ (word_at nvm.now at).cached }
 {
     nvm.read(at)

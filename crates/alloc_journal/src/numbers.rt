@@ -2,7 +2,7 @@
 
 ghost use Rattle.std.specs.Prelude.{◌≡◌, ◌≢◌, ◌+◌, ◌<◌, ◌≤◌, ◌↔◌, ℕ, Bool, IsTrue, IsNone, IfSome, true, false, not};
 ghost use Rattle.pmem_model.specs.Words.{Word, cuts};
-ghost use Rattle.pmem_model.specs.Memory.{word_at, is_at_home, AllHome, SameHomes};
+ghost use Rattle.pmem_model.specs.Memory.{word_at, AllHome, SameHomes};
 ghost use Rattle.pmem_model.specs.Events.{WordIs, Clean};
 ghost use Rattle.pmem_layout.specs.declared.number.Number.TheVariants.{Object, Page};
 ghost use Rattle.pmem_layout.specs.Numbers.{index_of};
@@ -14,14 +14,14 @@ ghost use Rattle.alloc_journal.specs.Sets.{has, SameBut, changes};
 ghost use Rattle.alloc_journal.specs.Format.{NumbersStand};
 ghost use Rattle.alloc_journal.specs.Work.{is_used, once_committed, is_redo, is_logging, is_formatting, log_left, redo_left, IsExact};
 ghost use Rattle.alloc_journal.specs.Formatting.{FormatShows};
+ghost use Rattle.alloc_journal.specs.Operations.{AtMostOne};
 ghost use Rattle.alloc_journal.specs.Shows.{NumbersShow};
 
 use crate::bits::{BASE_WORDS, Bits, least, neither, put};
 use crate::journal::Journal;
-use crate::memory::LEADER;
 use pmem_layout::{BASE_BITS, LOG_HEAD_AT, NUMBERS};
 use pmem_model::Pmem;
-use sls_base::{LAST_VERSION, OBJECTS, ObjId, PAGES, PageNo, Version};
+use sls_base::{LAST_VERSION, LEADER, OBJECTS, ObjId, PAGES, PageNo, Version};
 use std::marker::Model;
 
 /// The words of a set in which the objects stand. Those behind them are the pages'.
@@ -67,9 +67,8 @@ impl Numbers {
     /// Stores the numbers that are in use in the running state at the first of these steps as those of version 0. True
     /// exactly when they are durable, and where a memory is formatted already.
     pub fn format_step(&mut self, nvm: &mut Pmem) -> bool
-        requires { IsTrue (is_at_home nvm.old 0) }
         ensures homes { SameHomes nvm.old nvm.new }
-        ensures home { IsTrue (is_at_home nvm.new 0) }
+        ensures one { AtMostOne nvm.old nvm.new }
         ensures rest { StoresOnlyIn owners.Numbers (word_at nvm.old) (word_at nvm.new) }
         ensures last { IsTrue result ↔ (is_formatting self.new.work.stage ≡ false) }
         ensures running { self.new.running ≡ self.old.running }
@@ -84,7 +83,6 @@ impl Numbers {
     /// The numbers of a memory after a cut, with the version that is committed there. They are known once `redo_step`
     /// has answered true.
     pub fn recover(nvm: &Pmem, version: Version) -> Numbers
-        requires home { IsTrue (is_at_home nvm.now 0) }
         requires version { version ≤ LAST_VERSION }
         ensures version { result.work.version ≡ version }
         ensures redo { is_redo result.work.stage ≡ true }
@@ -188,9 +186,8 @@ impl Numbers {
     /// exactly when the log is durable, so that the next version may be committed.
     pub fn log_step(&mut self, nvm: &mut Pmem) -> bool
         requires version { self.old.work.version < LAST_VERSION }
-        requires home { IsTrue (is_at_home nvm.old 0) }
         ensures homes { SameHomes nvm.old nvm.new }
-        ensures home { IsTrue (is_at_home nvm.new 0) }
+        ensures one { AtMostOne nvm.old nvm.new }
         ensures rest { StoresOnlyIn owners.Numbers (word_at nvm.old) (word_at nvm.new) }
         ensures last { IsTrue result ↔ (self.new.work.stage ≡ Logged) }
         ensures first { self.old.work.stage ≡ Rest
@@ -221,9 +218,8 @@ impl Numbers {
     /// After the commit, brings the base up to date by the log, and clears the log. True exactly at the last, and where
     /// there is nothing to do.
     pub fn apply_step(&mut self, nvm: &mut Pmem) -> bool
-        requires { IsTrue (is_at_home nvm.old 0) }
         ensures homes { SameHomes nvm.old nvm.new }
-        ensures home { IsTrue (is_at_home nvm.new 0) }
+        ensures one { AtMostOne nvm.old nvm.new }
         ensures rest { StoresOnlyIn owners.Numbers (word_at nvm.old) (word_at nvm.new) }
         ensures last { IsTrue result ↔ (is_redo self.new.work.stage ≡ false) }
         ensures left { is_redo (once_committed self.old.work).stage ≡ true
@@ -246,9 +242,8 @@ impl Numbers {
     /// log. The running state is the committed one from then on. True exactly at the last, and where there is nothing to
     /// do.
     pub fn redo_step(&mut self, nvm: &mut Pmem) -> bool
-        requires { IsTrue (is_at_home nvm.old 0) }
         ensures homes { SameHomes nvm.old nvm.new }
-        ensures home { IsTrue (is_at_home nvm.new 0) }
+        ensures one { AtMostOne nvm.old nvm.new }
         ensures rest { StoresOnlyIn owners.Numbers (word_at nvm.old) (word_at nvm.new) }
         ensures last { IsTrue result ↔ (is_redo self.new.work.stage ≡ false) }
         ensures left { is_redo self.old.work.stage ≡ true → redo_left self.old.work ≡ redo_left self.new.work + 1 }

@@ -46,7 +46,7 @@ impl Model for World {
     ghost invariant = { λ w. AllHome w.nvm };
 }
 
-#[tactic(auto, using(crate::proofs::Homes::table_home, crate::proofs::Homes::word_home, crate::proofs::Homes::kept_home))]
+#[tactic(auto, using(crate::proofs::Homes::kept_home))]
 impl World {
     /// A memory at version 3, with pages 0 to 9 in use and no object.
     fn with_ten_pages(alloc: Global) -> Result<World, AllocError> {

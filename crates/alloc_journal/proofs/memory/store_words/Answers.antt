@@ -1,5 +1,4 @@
 use Rattle.std.proofs.Common.{◌<◌, arith}
-use Rattle.pmem_model.specs.Places.{bank_of}
 use Rattle.pmem_model.specs.PlaceLaws.{bank_of-table, offset_of-table, bank_size-table}
 use Rattle.alloc_journal.proofs.memory.store_words.Goals as goal
 
@@ -8,10 +7,3 @@ burst-requires-clause-inside c =
     let all = c.requires.in_table in let some = c.requires.some in
     let inside : c.args.at < 17920 = omega (arith, all, some) in
     rw (bank_of-table c.args.at inside, offset_of-table c.args.at inside, bank_size-table) all
-
-pub burst-requires-clause-home : goal.burst-requires-clause-home
-unfolding bank_of
-burst-requires-clause-home c =
-    let all = c.requires.in_table in let some = c.requires.some in
-    let inside : c.args.at < 17920 = omega (arith, all, some) in
-    rw (bank_of-table c.args.at inside) c.requires.home

@@ -8,6 +8,13 @@ use Rattle.alloc_journal.proofs.Words.{flush_only}
 use Rattle.alloc_journal.proofs.RedoSteps.{base_flushed}
 use Rattle.alloc_journal.proofs.journal.Journal.redo_entry.Goals as goal
 
+pub returns-in-Some-clause-shows : goal.returns-in-Some-clause-shows
+returns-in-Some-clause-shows c = λ v saved h.
+    let f = word_at c.args.nvm.now in
+    let read : c.read.result ≡ (f (log_entry_at c.args.self.now.redone)).cached = c.read.ensures ∙ ap (λ p. (f p).cached) c.log_entry_at.ensures.at in
+    let found = c.in-Some.ensures.found in
+    c.redo_change.ensures.shows v saved (found.0 ∙ ap number_of read, found.1 ∙ ap comes read) h
+
 pub returns-in-Some-clause-exact : goal.returns-in-Some-clause-exact
 returns-in-Some-clause-exact c = λ v saved h exact.
     let f = word_at c.args.nvm.now in

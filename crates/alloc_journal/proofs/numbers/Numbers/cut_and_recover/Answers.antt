@@ -1,16 +1,11 @@
-use Rattle.std.proofs.Common.{◌+◌, ℕ, subst, sym, arith}
+use Rattle.std.proofs.Common.{◌+◌, ℕ, subst, sym}
 use Rattle.pmem_model.specs.Memory.{word_at}
 use Rattle.pmem_model.specs.Events.{IsCut}
-use Rattle.pmem_model.specs.PlaceLaws.{home_of, all_home_kept}
 use Rattle.alloc_journal.specs.Sets.{has}
 use Rattle.alloc_journal.specs.Work.{as_committed}
 use Rattle.alloc_journal.specs.Format.{NumbersStand}
 use Rattle.alloc_journal.proofs.ShowLemmas.{cut_clean_word, cut_stands, numbers_commit}
 use Rattle.alloc_journal.proofs.numbers.Numbers.cut_and_recover.Goals as goal
-
-pub recover-requires-clause-home : goal.recover-requires-clause-home
-recover-requires-clause-home c =
-    home_of c.cut.new.self 0 (all_home_kept c.args.nvm.now c.cut.new.self c.cut.ensures.homes c.requires.home) (omega arith)
 
 pub returns-clause-same : goal.returns-clause-same
 returns-clause-same c = λ saved h.
