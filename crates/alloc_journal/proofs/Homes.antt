@@ -1,6 +1,12 @@
--- All stays at home.
-use Rattle.pmem_model.specs.Memory.{Memory, AllHome, SameHomes}
-use Rattle.pmem_model.specs.PlaceLaws.{all_home_kept}
+-- Words and lines that an operation names are there, and all stays at home.
+use Rattle.std.proofs.Common.{◌≡◌, ℕ, ◌%◌, ◌≤◌, arith}
+use Rattle.pmem_model.specs.PlaceLaws.{inside_word, inside_line, home_of, all_home_kept}
+use Rattle.pmem_layout.specs.Places.{line_at}
 
-pub kept_home : (old new : Memory) → SameHomes old new → AllHome old → AllHome new
-kept_home = all_home_kept
+pub line_begins : (at : ℕ) → line_at at % 8 ≡ 0
+line_begins at = omega arith
+
+pub line_least : (at : ℕ) → line_at at ≤ at
+line_least at = omega arith
+
+pub ruleset places = (inside_word, inside_line, home_of, all_home_kept, line_begins, line_least)

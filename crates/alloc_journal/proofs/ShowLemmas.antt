@@ -1,5 +1,5 @@
 -- The laws of the relation: it outlives calm events, a cut leaves what stands, and what is logged may be committed.
-use Rattle.std.proofs.Common.{◌≡◌, ◌⊎◌, inl, inr, ℕ, ◌+◌, ◌/◌, ◌^◌, ◌<◌, ◌≤◌, ◌∙◌, sym, ap, subst, refl, arith, Bool, true, false, if◌then◌else◌, ⊎_elim, slice_index}
+use Rattle.std.proofs.Common.{◌≡◌, ◌≢◌, ◌⊎◌, inl, inr, ℕ, ◌+◌, ◌/◌, ◌^◌, ◌<◌, ◌≤◌, ◌∙◌, sym, ap, subst, refl, arith, Bool, true, false, if◌then◌else◌, ⊎_elim, slice_index}
 use Rattle.std.proofs.lemmas.Bool.{cases_Bool}
 use Rattle.pmem_model.specs.Words.{Word}
 use Rattle.pmem_model.specs.Events.{Kind, Clean, Over, ReadyOver, WordIs, WordCalm, Left, IsCut, calm_word, left_word, cut_clean, cut_left}
@@ -14,7 +14,7 @@ use Rattle.alloc_journal.specs.declared.journal.Stage.{Stage}
 use Rattle.alloc_journal.specs.declared.journal.Stage.TheVariants.{Unformatted, FirstStored, FirstInFlight, Rest, StoringEntries, EntriesInFlight, EntriesDurable, HeadStored, HeadInFlight, Logged, Redoing, BaseInFlight, BaseDurable, HeadCleared, ClearInFlight}
 use Rattle.alloc_journal.specs.Sets.{bit_of, has}
 use Rattle.alloc_journal.specs.Format.{number_of, comes, redone, entries, count_at, base_bit, AreEntries, NumbersStand}
-use Rattle.alloc_journal.specs.Work.{Work, is_redo, as_committed}
+use Rattle.alloc_journal.specs.Work.{Work, is_redo, is_logged, as_committed, once_committed}
 use Rattle.alloc_journal.specs.Shows.{NumbersShow, IsUnnamed, head_kind, head_value, entry_kind, base_kind, counted, redone_at, IsHeadAt}
 use Rattle.alloc_journal.specs.Formatting.{FormatShows, first_kind}
 use Rattle.alloc_journal.proofs.Words.{owner_head, owner_base, owner_entry, durable_calm}
@@ -355,3 +355,24 @@ formatted w f e all =
       durable_has = λ n inside unnamed. ap (λ (x : ℕ). bit_of x n) ((h.base_words (n / BASE_BITS) (omega (arith, inside))).1);
     } in
     subst (λ (s : Stage). NumbersShow (record w { stage = s }) f 0 (has w.committed)) (sym e) show
+
+-- nothing but what is logged becomes committed
+not_logged : (s : Stage) → s ≢ Logged → is_logged s ≡ false
+not_logged Unformatted ne = refl
+not_logged FirstStored ne = refl
+not_logged FirstInFlight ne = refl
+not_logged Rest ne = refl
+not_logged StoringEntries ne = refl
+not_logged EntriesInFlight ne = refl
+not_logged EntriesDurable ne = refl
+not_logged HeadStored ne = refl
+not_logged HeadInFlight ne = refl
+not_logged Logged ne = absurd (ne refl)
+not_logged Redoing ne = refl
+not_logged BaseInFlight ne = refl
+not_logged BaseDurable ne = refl
+not_logged HeadCleared ne = refl
+not_logged ClearInFlight ne = refl
+
+pub once_other : (w : Work) → w.stage ≢ Logged → w ≡ once_committed w
+once_other w ne = let off = not_logged w.stage ne in rw off refl

@@ -5,3 +5,4 @@ pub mod Says
 pub mod Work
 pub mod Shows
 pub mod Formatting
+pub mod Events

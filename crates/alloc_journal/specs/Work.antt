@@ -68,8 +68,8 @@ abbrev pub is_logged : Stage → Bool
 is_logged Logged = true
 is_logged _ = false
 
--- How many steps are left: one for each entry that is still to be stored or redone, and five that flush, fence, and store
--- or clear the head.
+-- How many steps are left: one for each entry that is still to be stored or redone, and five that flush, fence, and
+-- store or clear the head.
 
 abbrev pub log_left_at : Stage → ℕ → ℕ
 log_left_at StoringEntries pending = pending + 5

@@ -176,7 +176,8 @@ impl Journal {
         ensures one { AtMostOne nvm.old nvm.new }
         ensures rest { StoresOnlyIn Numbers (word_at nvm.old) (word_at nvm.new) }
         ensures last { IsTrue result ↔ (self.new.stage ≡ Logged) }
-        ensures first { self.old.stage ≡ Rest → log_left (work_of self.new) ≡ changes self.old.committed running.now + 4 }
+        ensures first { self.old.stage ≡ Rest
+            → log_left (work_of self.new) ≡ changes self.old.committed running.now + 4 }
         ensures left { is_logging self.old.stage ≡ true → self.old.stage ≢ Logged
             → log_left (work_of self.old) ≡ log_left (work_of self.new) + 1 }
         ensures entries { IsTrue result → self.new.entries ≡ changes self.new.committed self.new.logged }

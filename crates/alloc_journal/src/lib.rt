@@ -4,11 +4,13 @@
 
 mod bits;
 mod entry;
+mod history;
 mod journal;
 pub mod laws;
 mod memory;
 mod numbers;
 
+pub use history::{Event, play};
 pub use numbers::Numbers;
 
 #[cfg(test)]

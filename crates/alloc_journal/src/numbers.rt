@@ -18,7 +18,7 @@ ghost use Rattle.alloc_journal.specs.Operations.{AtMostOne};
 ghost use Rattle.alloc_journal.specs.Shows.{NumbersShow};
 
 use crate::bits::{BASE_WORDS, Bits, least, neither, put};
-use crate::journal::Journal;
+use crate::journal::{Journal, Stage};
 use pmem_layout::{BASE_BITS, LOG_HEAD_AT, NUMBERS};
 use pmem_model::Pmem;
 use sls_base::{LAST_VERSION, LEADER, OBJECTS, ObjId, PAGES, PageNo, Version};
@@ -101,9 +101,17 @@ impl Numbers {
 
     /// The committed version.
     pub fn version(&self) -> Version
-        ensures { result ≡ self.now.work.version }
+        ensures version { result ≡ self.now.work.version }
+        ensures most { result ≤ LAST_VERSION }
     {
         self.journal.version
+    }
+
+    /// Whether the log is durable, so that the next version may be committed.
+    pub fn is_logged(&self) -> bool
+        ensures { IsTrue result ↔ (self.now.work.stage ≡ Logged) }
+    {
+        self.journal.stage == Stage::Logged
     }
 
     /// The least object number that is in use neither in the running nor in the committed state. None where there is
@@ -239,7 +247,7 @@ impl Numbers {
     }
 
     /// After a cut, brings the base up to date by the log where its head names the committed version, and clears the
-    /// log. The running state is the committed one from then on. True exactly at the last, and where there is nothing to
+    /// log. The running state is the committed one from then on. True exactly at the last, and where nothing is left to
     /// do.
     pub fn redo_step(&mut self, nvm: &mut Pmem) -> bool
         ensures homes { SameHomes nvm.old nvm.new }

@@ -46,7 +46,7 @@ impl Model for World {
     ghost invariant = { λ w. AllHome w.nvm };
 }
 
-#[tactic(auto, using(crate::proofs::Homes::kept_home))]
+#[tactic(auto, using(crate::proofs::Homes::places))]
 impl World {
     /// A memory at version 3, with pages 0 to 9 in use and no object.
     fn with_ten_pages(alloc: Global) -> Result<World, AllocError> {
@@ -145,7 +145,7 @@ impl World {
     fn write_back(&mut self, at: usize)
         requires { at < TABLE_WORDS }
     {
-        self.nvm.write_back(at);
+        play(&mut self.numbers, &mut self.nvm, &[Event::WriteBack(at)]);
     }
 
     /// Another core flushes a line of the table.
@@ -153,13 +153,17 @@ impl World {
         requires core { core < CORES }
         requires line { line < 64 }
     {
-        self.nvm.flush(core, line * LINE_WORDS, 1);
+        play(
+            &mut self.numbers,
+            &mut self.nvm,
+            &[Event::Flush(core, line * LINE_WORDS)],
+        );
     }
 
     fn foreign_fence(&mut self, core: CoreNo)
         requires { core < CORES }
     {
-        self.nvm.fence(core);
+        play(&mut self.numbers, &mut self.nvm, &[Event::Fence(core)]);
     }
 
     /// Cuts the power, and goes on from the version that is committed then.
