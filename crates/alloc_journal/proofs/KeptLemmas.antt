@@ -15,8 +15,10 @@ pub kept_stored : (w : Work) (n : ℕ) (pending : List ℕ) → w.stage ≡ Stor
     × (log_left w ≡ log_left (record w { pending = pending; entries = w.entries + 1 }) + 1)
 kept_stored w n pending e kept inside is_pending least gone others =
     let few = kept.room e n inside is_pending in
-    let less : count_of (has w.pending) NUMBERS ≡ count_of (has pending) NUMBERS + 1 = count_less (has w.pending) (has pending) n NUMBERS inside is_pending gone others in
-    let counts : w.entries + count_of (has w.pending) NUMBERS ≡ changes w.committed w.logged = subst (λ (s : Stage). HasEntries s w) e kept.has_entries in (
+    let less : count_of (has w.pending) NUMBERS ≡ count_of (has pending) NUMBERS + 1 = count_less (has w.pending)
+    (has pending) n NUMBERS inside is_pending gone others in
+    let counts : w.entries + count_of (has w.pending) NUMBERS ≡ changes w.committed w.logged = subst
+    (λ (s : Stage). HasEntries s w) e kept.has_entries in (
       record {
         most = omega (arith, few, inside);
         room = λ stage m within wanted.
@@ -26,18 +28,21 @@ kept_stored w n pending e kept inside is_pending least gone others =
               | inl low ↦ let z = sym (least m low) ∙ was in cc
               | inr high ↦ omega (arith, high, other, few)
             ];
-        has_entries = subst (λ (s : Stage). HasEntries s (record w { pending = pending; entries = w.entries + 1 })) (sym e) (omega (arith, less, counts));
+        has_entries = subst (λ (s : Stage). HasEntries s (record w { pending = pending; entries = w.entries + 1 }))
+            (sym e) (omega (arith, less, counts));
         version = kept.version;
         next_version = kept.next_version;
       },
-      subst (λ (s : Stage). log_left (record w { stage = s }) ≡ log_left (record w { stage = s; pending = pending; entries = w.entries + 1 }) + 1) (sym e) (omega (arith, less)),
+      subst (λ (s : Stage). log_left (record w { stage = s }) ≡ log_left
+          (record w { stage = s; pending = pending; entries = w.entries + 1 }) + 1) (sym e) (omega (arith, less)),
     )
 
 pub kept_flushed : (w : Work) → w.stage ≡ StoringEntries → IsKept w → ((m : ℕ) → m < NUMBERS → has w.pending m ≡ false)
     → IsKept (record w { stage = EntriesInFlight }) × (log_left w ≡ log_left (record w { stage = EntriesInFlight }) + 1)
 kept_flushed w e kept none =
     let no_more : count_of (has w.pending) NUMBERS ≡ 0 = count_none (has w.pending) NUMBERS none in
-    let counts : w.entries + count_of (has w.pending) NUMBERS ≡ changes w.committed w.logged = subst (λ (s : Stage). HasEntries s w) e kept.has_entries in (
+    let counts : w.entries + count_of (has w.pending) NUMBERS ≡ changes w.committed w.logged = subst
+    (λ (s : Stage). HasEntries s w) e kept.has_entries in (
       record {
         most = kept.most;
         room = λ stage. cc;

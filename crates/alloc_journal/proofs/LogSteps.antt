@@ -40,26 +40,36 @@ entry_stored w f g v saved n word pending e room inside is_pending least gone ot
     let below : (i : ℕ) → i < count → number_of (entry i) < n = λ i lt.
     let come = h.log_is.to_come i n lt inside is_pending in
     subst (λ (x : ℕ). number_of x < n) (sym (old i lt)) come in
-    let show : NumbersShow (record w { pending = pending; stage = StoringEntries; entries = w.entries + 1 }) g v saved = record {
+    let show : NumbersShow
+    (record w { pending = pending; stage = StoringEntries; entries = w.entries + 1 }) g v saved = record {
       version_is = h.version_is;
       entry = entry;
       head = h.head;
       base = h.base;
       entry_words = below_more (λ (i : ℕ). WordIs 0 Cached (g (log_entry_at i)) (entry i)) count
           (λ i lt. subst (λ (x : ℕ). WordIs 0 Cached (g (log_entry_at i)) x) (sym (old i lt))
-          (calm_word 0 Cached (f (log_entry_at i)) (g (log_entry_at i)) (h.entry i) (stored_apart f g (log_entry_at count) word (log_entry_at i) stored (λ q. absurd (omega (arith, q, lt)))) (h.entry_words i lt)))
-          (subst (λ (x : ℕ). WordIs 0 Cached (g (log_entry_at count)) x) (sym new) (stored_reads f g (log_entry_at count) word stored));
-      head_word = calm_word 0 Clean (f LOG_HEAD_AT) (g LOG_HEAD_AT) 0 (stored_apart f g (log_entry_at count) word LOG_HEAD_AT stored (λ q. absurd (omega (arith, q)))) h.head_word;
-      base_words = λ k lt. calm_word 0 Clean (f (OBJECT_BASE_AT + k)) (g (OBJECT_BASE_AT + k)) (h.base k) (stored_apart f g (log_entry_at count) word (OBJECT_BASE_AT + k) stored (λ q. absurd (omega (arith, q, lt)))) (h.base_words k lt);
+          (calm_word 0 Cached (f (log_entry_at i)) (g (log_entry_at i)) (h.entry i)
+          (stored_apart f g (log_entry_at count) word (log_entry_at i) stored
+          (λ q. absurd (omega (arith, q, lt)))) (h.entry_words i lt)))
+          (subst (λ (x : ℕ). WordIs 0 Cached (g (log_entry_at count)) x) (sym new)
+          (stored_reads f g (log_entry_at count) word stored));
+      head_word = calm_word 0 Clean (f LOG_HEAD_AT) (g LOG_HEAD_AT) 0
+          (stored_apart f g (log_entry_at count) word LOG_HEAD_AT stored (λ q. absurd (omega (arith, q)))) h.head_word;
+      base_words = λ k lt. calm_word 0 Clean (f (OBJECT_BASE_AT + k)) (g (OBJECT_BASE_AT + k)) (h.base k)
+          (stored_apart f g (log_entry_at count) word (OBJECT_BASE_AT + k) stored
+          (λ q. absurd (omega (arith, q, lt)))) (h.base_words k lt);
       are_entries = record {
         most = omega (arith, room);
-        in_range = below_more (λ (i : ℕ). number_of (entry i) < NUMBERS) count (λ i lt. let b = below i lt in omega (arith, b, inside)) (rw new (omega (arith, of, inside)));
+        in_range = below_more (λ (i : ℕ). number_of (entry i) < NUMBERS) count
+            (λ i lt. let b = below i lt in omega (arith, b, inside)) (rw new (omega (arith, of, inside)));
         rising = λ i j less lt. elim (cases_eq j count) [
           | inl last ↦ let b = below i (omega (arith, less, last)) in
-              subst (λ (k : ℕ). number_of (entry i) < number_of (entry k)) (sym last) (subst (λ (x : ℕ). number_of (entry i) < number_of x) (sym new) (omega (arith, b, of)))
+              subst (λ (k : ℕ). number_of (entry i) < number_of (entry k)) (sym last)
+              (subst (λ (x : ℕ). number_of (entry i) < number_of x) (sym new) (omega (arith, b, of)))
           | inr earlier ↦ let inner : j < count = omega (arith, lt, earlier) in
               subst (λ (x : ℕ). x < number_of (entry j)) (ap number_of (sym (old i (omega (arith, less, inner)))))
-              (subst (λ (x : ℕ). number_of (h.entry i) < x) (ap number_of (sym (old j inner))) (h.are_entries.rising i j less inner))
+              (subst (λ (x : ℕ). number_of (h.entry i) < x) (ap number_of (sym (old j inner)))
+              (h.are_entries.rising i j less inner))
         ];
       };
       tell = below_more (λ (i : ℕ). has w.logged (number_of (entry i)) ≡ comes (entry i)) count
@@ -74,20 +84,24 @@ entry_stored w f g v saved n word pending e room inside is_pending least gone ot
               | inr high ↦ omega (arith, high, other)
             ] in
             elim (cases_eq i count) [
-              | inl last ↦ subst (λ (k : ℕ). number_of (entry k) < m) (sym last) (subst (λ (x : ℕ). number_of x < m) (sym new) (omega (arith, of, above)))
+              | inl last ↦ subst (λ (k : ℕ). number_of (entry k) < m) (sym last)
+                  (subst (λ (x : ℕ). number_of x < m) (sym new) (omega (arith, of, above)))
               | inr earlier ↦ let b = below i (omega (arith, lt, earlier)) in omega (arith, b, above)
             ];
         others = λ m within off none.
             let other : m ≢ n = λ q. none count (omega arith) (omega arith) (ap number_of new ∙ of ∙ sym q) in
-            h.log_is.others m within (sym (others m within other) ∙ off) (λ i low lt is. none i low (omega (arith, lt)) (ap number_of (old i lt) ∙ is));
+            h.log_is.others m within (sym (others m within other) ∙ off)
+            (λ i low lt is. none i low (omega (arith, lt)) (ap number_of (old i lt) ∙ is));
       };
       head_is = tt;
       base_has = λ m within none. h.base_has m within (λ i low high. absurd (omega (arith, high)));
       committed_has = λ m within none. h.committed_has m within (λ i low high. absurd (omega (arith, high)));
       durable_has = λ m within none. durable_kept (record w { stage = StoringEntries }) f g v saved h
-          (λ k lt. stored_apart f g (log_entry_at count) word (OBJECT_BASE_AT + k) stored (λ q. absurd (omega (arith, q, lt)))) m within (λ i low high. absurd (omega (arith, high)));
+          (λ k lt. stored_apart f g (log_entry_at count) word (OBJECT_BASE_AT + k) stored
+          (λ q. absurd (omega (arith, q, lt)))) m within (λ i low high. absurd (omega (arith, high)));
     } in
-    subst (λ (s : Stage). NumbersShow (record w { pending = pending; stage = s; entries = w.entries + 1 }) g v saved) (sym e) show
+    subst (λ (s : Stage). NumbersShow (record w { pending = pending; stage = s; entries = w.entries + 1 }) g v saved)
+    (sym e) show
 
 pub entries_flushed : (w : Work) (f g : ℕ → Word) (v : ℕ) (saved : ℕ → Bool) (size : ℕ) → w.stage ≡ StoringEntries
     → w.entries ≤ size → ((m : ℕ) → m < NUMBERS → has w.pending m ≡ false)
@@ -102,7 +116,8 @@ entries_flushed w f g v saved size e fits done flushed all =
       entry = h.entry;
       head = h.head;
       base = h.base;
-      entry_words = λ i lt. flush_in 0 Cached f g LOG_ENTRIES_AT size i (h.entry i) flushed (omega (arith, lt, fits)) (h.entry_words i lt);
+      entry_words = λ i lt. flush_in 0 Cached f g LOG_ENTRIES_AT size i (h.entry i) flushed (omega (arith, lt, fits))
+          (h.entry_words i lt);
       head_word = head_kept old f g v saved h calm;
       base_words = base_kept old f g v saved h calm;
       are_entries = h.are_entries;
@@ -115,7 +130,8 @@ entries_flushed w f g v saved size e fits done flushed all =
     }
 
 pub entries_fenced : (w : Work) (f g : ℕ → Word) (v : ℕ) (saved : ℕ → Bool) → w.stage ≡ EntriesInFlight
-    → ((i : ℕ) → g i ≡ fences 0 f i) → NumbersShow w f v saved → NumbersShow (record w { stage = EntriesDurable }) g v saved
+    → ((i : ℕ) → g i ≡ fences 0 f i) → NumbersShow w f v saved → NumbersShow
+    (record w { stage = EntriesDurable }) g v saved
 entries_fenced w f g v saved e fenced all =
     let h = subst (λ (s : Stage). NumbersShow (record w { stage = s }) f v saved) e all in
     let old : Work = record w { stage = EntriesInFlight } in
@@ -125,7 +141,8 @@ entries_fenced w f g v saved e fenced all =
       entry = h.entry;
       head = h.head;
       base = h.base;
-      entry_words = λ i lt. fence_word 0 Ready (f (log_entry_at i)) (g (log_entry_at i)) (h.entry i) (fence_all f g 0 fenced (log_entry_at i)) (h.entry_words i lt);
+      entry_words = λ i lt. fence_word 0 Ready (f (log_entry_at i)) (g (log_entry_at i)) (h.entry i)
+          (fence_all f g 0 fenced (log_entry_at i)) (h.entry_words i lt);
       head_word = head_kept old f g v saved h calm;
       base_words = base_kept old f g v saved h calm;
       are_entries = h.are_entries;
@@ -150,9 +167,12 @@ head_stored w f g v saved head e names stored all =
       entry = h.entry;
       head = head;
       base = h.base;
-      entry_words = λ i lt. calm_word 0 Clean (f (log_entry_at i)) (g (log_entry_at i)) (h.entry i) (stored_apart f g LOG_HEAD_AT head (log_entry_at i) stored (λ q. absurd (omega (arith, q)))) (h.entry_words i lt);
+      entry_words = λ i lt. calm_word 0 Clean (f (log_entry_at i)) (g (log_entry_at i)) (h.entry i)
+          (stored_apart f g LOG_HEAD_AT head (log_entry_at i) stored (λ q. absurd (omega (arith, q))))
+          (h.entry_words i lt);
       head_word = stored_over f g LOG_HEAD_AT head 0 stored (h.head_word.1);
-      base_words = λ k lt. calm_word 0 Clean (f (OBJECT_BASE_AT + k)) (g (OBJECT_BASE_AT + k)) (h.base k) (off k lt) (h.base_words k lt);
+      base_words = λ k lt. calm_word 0 Clean (f (OBJECT_BASE_AT + k)) (g (OBJECT_BASE_AT + k)) (h.base k) (off k lt)
+          (h.base_words k lt);
       are_entries = h.are_entries;
       tell = h.tell;
       log_is = h.log_is;
@@ -198,7 +218,8 @@ log_done w f g v saved e fenced all =
       head = h.head;
       base = h.base;
       entry_words = entries_kept old f g v saved h calm;
-      head_word = fence_word 0 (ReadyOver 0) (f LOG_HEAD_AT) (g LOG_HEAD_AT) h.head (fence_all f g 0 fenced LOG_HEAD_AT) h.head_word;
+      head_word = fence_word 0 (ReadyOver 0) (f LOG_HEAD_AT) (g LOG_HEAD_AT) h.head
+          (fence_all f g 0 fenced LOG_HEAD_AT) h.head_word;
       base_words = base_kept old f g v saved h calm;
       are_entries = h.are_entries;
       tell = h.tell;

@@ -33,11 +33,13 @@ next_entry w f v saved e some all =
     )
 
 -- what is durable of one word of the base
-durable_here : (w : Work) (f g : ℕ → Word) (v : ℕ) (saved : ℕ → Bool) (n : ℕ) (h : NumbersShow (record w { stage = Redoing }) f v saved)
+durable_here : (w : Work) (f g : ℕ → Word) (v : ℕ) (saved : ℕ → Bool) (n : ℕ)
+    (h : NumbersShow (record w { stage = Redoing }) f v saved)
     → n < NUMBERS → IsUnnamed h.entry 0 w.entries n → WordCalm (f (base_at n)) (g (base_at n))
     → bit_of ((g (base_at n)).durable) n ≡ saved n
 durable_here w f g v saved n h inside none calm =
-    durable_calm (f (base_at n)) (g (base_at n)) (h.base (n / BASE_BITS)) n (saved n) calm (h.base_words (n / BASE_BITS) (omega (arith, inside)))
+    durable_calm (f (base_at n)) (g (base_at n)) (h.base (n / BASE_BITS)) n (saved n) calm
+    (h.base_words (n / BASE_BITS) (omega (arith, inside)))
     (h.base_has n inside (still_unnamed h.entry w.redone w.entries n none)) (h.durable_has n inside none)
 
 pub entry_redone : (w : Work) (f g : ℕ → Word) (v : ℕ) (saved : ℕ → Bool) (n word : ℕ) (committed : List ℕ)
@@ -54,7 +56,8 @@ entry_redone w f g v saved n word committed e some of says others is stored all 
     let inside_n : n < NUMBERS = let r = next.0 in omega (arith, r, of) in
     let saved_n : has committed n ≡ saved n = says ∙ sym next.1 ∙ ap saved (sym of) in
     let base = other_word h.base (n / BASE_BITS) word in
-    let still : (m : ℕ) → m ≢ n → IsUnnamed h.entry (w.redone + 1) w.entries m → IsUnnamed h.entry w.redone w.entries m =
+    let still : (m : ℕ) → m ≢ n → IsUnnamed h.entry
+    (w.redone + 1) w.entries m → IsUnnamed h.entry w.redone w.entries m =
     λ m ne none i low high q. elim (cases_eq i w.redone) [
       | inl now ↦ ne (sym q ∙ ap (λ (k : ℕ). number_of (h.entry k)) now ∙ names)
       | inr later ↦ none i (omega (arith, low, later)) high q
@@ -64,18 +67,26 @@ entry_redone w f g v saved n word committed e some of says others is stored all 
       | inl same ↦ ap (has committed) same ∙ saved_n ∙ ap saved (sym same)
       | inr ne ↦ others m inside ne ∙ h.committed_has m inside (still m ne none)
     ] in
-    let show : NumbersShow (record w { committed = committed; stage = Redoing; redone = w.redone + 1 }) g v saved = record {
+    let show : NumbersShow
+    (record w { committed = committed; stage = Redoing; redone = w.redone + 1 }) g v saved = record {
       version_is = h.version_is;
       entry = h.entry;
       head = h.head;
       base = base;
-      entry_words = λ i lt. calm_word 0 Clean (f (log_entry_at i)) (g (log_entry_at i)) (h.entry i) (stored_apart f g (OBJECT_BASE_AT + n / BASE_BITS) word (log_entry_at i) stored (λ q. absurd (omega (arith, q, inside_n)))) (h.entry_words i lt);
-      head_word = calm_word 0 Clean (f LOG_HEAD_AT) (g LOG_HEAD_AT) h.head (stored_apart f g (OBJECT_BASE_AT + n / BASE_BITS) word LOG_HEAD_AT stored (λ q. absurd (omega (arith, q)))) h.head_word;
+      entry_words = λ i lt. calm_word 0 Clean (f (log_entry_at i)) (g (log_entry_at i)) (h.entry i)
+          (stored_apart f g (OBJECT_BASE_AT + n / BASE_BITS) word (log_entry_at i) stored
+          (λ q. absurd (omega (arith, q, inside_n)))) (h.entry_words i lt);
+      head_word = calm_word 0 Clean (f LOG_HEAD_AT) (g LOG_HEAD_AT) h.head
+          (stored_apart f g (OBJECT_BASE_AT + n / BASE_BITS) word LOG_HEAD_AT stored
+          (λ q. absurd (omega (arith, q)))) h.head_word;
       base_words = λ k lt. elim (cases_eq k (n / BASE_BITS)) [
         | inl here ↦ subst (λ (j : ℕ). WordIs 0 Cached (g (OBJECT_BASE_AT + j)) (base j)) (sym here)
-            (rw (eq-eqb (n / BASE_BITS) (n / BASE_BITS) refl) (stored_reads f g (OBJECT_BASE_AT + n / BASE_BITS) word stored))
+            (rw (eq-eqb (n / BASE_BITS) (n / BASE_BITS) refl)
+            (stored_reads f g (OBJECT_BASE_AT + n / BASE_BITS) word stored))
         | inr off ↦ rw (ne_eqb k (n / BASE_BITS) off)
-            (calm_word 0 Cached (f (OBJECT_BASE_AT + k)) (g (OBJECT_BASE_AT + k)) (h.base k) (stored_apart f g (OBJECT_BASE_AT + n / BASE_BITS) word (OBJECT_BASE_AT + k) stored (λ q. off (omega (arith, q)))) (h.base_words k lt))
+            (calm_word 0 Cached (f (OBJECT_BASE_AT + k)) (g (OBJECT_BASE_AT + k)) (h.base k)
+            (stored_apart f g (OBJECT_BASE_AT + n / BASE_BITS) word (OBJECT_BASE_AT + k) stored
+            (λ q. off (omega (arith, q)))) (h.base_words k lt))
       ];
       are_entries = h.are_entries;
       tell = h.tell;
@@ -89,12 +100,17 @@ entry_redone w f g v saved n word committed e some of says others is stored all 
       ];
       committed_has = has_saved;
       durable_has = λ m inside none. elim (cases_eq (m / BASE_BITS) (n / BASE_BITS)) [
-        | inl here ↦ ap (λ (x : ℕ). bit_of x m) (ap (λ (k : ℕ). (g (OBJECT_BASE_AT + k)).durable) here ∙ stored_durable f g (OBJECT_BASE_AT + n / BASE_BITS) word stored ∙ ap (λ (k : ℕ). (f (OBJECT_BASE_AT + k)).durable) (sym here))
+        | inl here ↦ ap (λ (x : ℕ). bit_of x m)
+            (ap (λ (k : ℕ). (g (OBJECT_BASE_AT + k)).durable) here
+            ∙ stored_durable f g (OBJECT_BASE_AT + n / BASE_BITS) word stored
+            ∙ ap (λ (k : ℕ). (f (OBJECT_BASE_AT + k)).durable) (sym here))
             ∙ h.durable_has m inside none
-        | inr off ↦ durable_here w f g v saved m h inside none (stored_apart f g (OBJECT_BASE_AT + n / BASE_BITS) word (base_at m) stored (λ q. off (omega (arith, q))))
+        | inr off ↦ durable_here w f g v saved m h inside none
+            (stored_apart f g (OBJECT_BASE_AT + n / BASE_BITS) word (base_at m) stored (λ q. off (omega (arith, q))))
       ];
     } in
-    subst (λ (s : Stage). NumbersShow (record w { committed = committed; stage = s; redone = w.redone + 1 }) g v saved) (sym e) show
+    subst (λ (s : Stage). NumbersShow
+    (record w { committed = committed; stage = s; redone = w.redone + 1 }) g v saved) (sym e) show
 
 pub redone_exact : (w : Work) (f : ℕ → Word) (v : ℕ) (saved : ℕ → Bool) (n : ℕ) (committed : List ℕ)
     → w.stage ≡ Redoing → w.redone < w.entries → n ≡ number_of ((f (log_entry_at w.redone)).cached)
@@ -122,7 +138,8 @@ base_flushed w f g v saved size e done fits flushed all =
       base = h.base;
       entry_words = entries_kept old f g v saved h calm;
       head_word = head_kept old f g v saved h calm;
-      base_words = λ j lt. flush_in 0 Cached f g OBJECT_BASE_AT size j (h.base j) flushed (omega (arith, lt, fits)) (h.base_words j lt);
+      base_words = λ j lt. flush_in 0 Cached f g OBJECT_BASE_AT size j (h.base j) flushed (omega (arith, lt, fits))
+          (h.base_words j lt);
       are_entries = h.are_entries;
       tell = h.tell;
       log_is = tt;
@@ -133,7 +150,8 @@ base_flushed w f g v saved size e done fits flushed all =
     }
 
 pub base_fenced : (w : Work) (f g : ℕ → Word) (v : ℕ) (saved : ℕ → Bool) → w.stage ≡ BaseInFlight
-    → ((i : ℕ) → g i ≡ fences 0 f i) → NumbersShow w f v saved → NumbersShow (record w { stage = BaseDurable }) g v saved
+    → ((i : ℕ) → g i ≡ fences 0 f i) → NumbersShow w f v saved → NumbersShow
+    (record w { stage = BaseDurable }) g v saved
 base_fenced w f g v saved e fenced all =
     let h = subst (λ (s : Stage). NumbersShow (record w { stage = s }) f v saved) e all in
     let old : Work = record w { stage = BaseInFlight } in
@@ -145,7 +163,8 @@ base_fenced w f g v saved e fenced all =
       base = h.base;
       entry_words = entries_kept old f g v saved h calm;
       head_word = head_kept old f g v saved h calm;
-      base_words = λ j lt. fence_word 0 Ready (f (OBJECT_BASE_AT + j)) (g (OBJECT_BASE_AT + j)) (h.base j) (fence_all f g 0 fenced (OBJECT_BASE_AT + j)) (h.base_words j lt);
+      base_words = λ j lt. fence_word 0 Ready (f (OBJECT_BASE_AT + j)) (g (OBJECT_BASE_AT + j)) (h.base j)
+          (fence_all f g 0 fenced (OBJECT_BASE_AT + j)) (h.base_words j lt);
       are_entries = h.are_entries;
       tell = h.tell;
       log_is = tt;
@@ -166,9 +185,12 @@ head_cleared w f g v saved e stored all =
       entry = h.entry;
       head = h.head;
       base = h.base;
-      entry_words = λ i lt. calm_word 0 Clean (f (log_entry_at i)) (g (log_entry_at i)) (h.entry i) (stored_apart f g LOG_HEAD_AT 0 (log_entry_at i) stored (λ q. absurd (omega (arith, q)))) (h.entry_words i lt);
+      entry_words = λ i lt. calm_word 0 Clean (f (log_entry_at i)) (g (log_entry_at i)) (h.entry i)
+          (stored_apart f g LOG_HEAD_AT 0 (log_entry_at i) stored (λ q. absurd (omega (arith, q))))
+          (h.entry_words i lt);
       head_word = stored_over f g LOG_HEAD_AT 0 h.head stored (h.head_word.1);
-      base_words = λ k lt. calm_word 0 Clean (f (OBJECT_BASE_AT + k)) (g (OBJECT_BASE_AT + k)) (h.base k) (off k lt) (h.base_words k lt);
+      base_words = λ k lt. calm_word 0 Clean (f (OBJECT_BASE_AT + k)) (g (OBJECT_BASE_AT + k)) (h.base k) (off k lt)
+          (h.base_words k lt);
       are_entries = h.are_entries;
       tell = h.tell;
       log_is = tt;
@@ -203,7 +225,8 @@ clear_flushed w f g v saved size e some flushed all =
     }
 
 pub redo_done : (w : Work) (f g : ℕ → Word) (v : ℕ) (saved : ℕ → Bool) → w.stage ≡ ClearInFlight
-    → ((i : ℕ) → g i ≡ fences 0 f i) → NumbersShow w f v saved → NumbersShow (record w { stage = Rest; entries = 0 }) g v saved
+    → ((i : ℕ) → g i ≡ fences 0 f i) → NumbersShow w f v saved → NumbersShow
+    (record w { stage = Rest; entries = 0 }) g v saved
 redo_done w f g v saved e fenced all =
     let h = subst (λ (s : Stage). NumbersShow (record w { stage = s }) f v saved) e all in
     let old : Work = record w { stage = ClearInFlight } in
@@ -214,14 +237,21 @@ redo_done w f g v saved e fenced all =
       head = h.head;
       base = h.base;
       entry_words = λ i lt. absurd (omega (arith, lt));
-      head_word = fence_word 0 (ReadyOver h.head) (f LOG_HEAD_AT) (g LOG_HEAD_AT) 0 (fence_all f g 0 fenced LOG_HEAD_AT) h.head_word;
+      head_word = fence_word 0 (ReadyOver h.head) (f LOG_HEAD_AT) (g LOG_HEAD_AT) 0
+          (fence_all f g 0 fenced LOG_HEAD_AT) h.head_word;
       base_words = base_kept old f g v saved h calm;
-      are_entries = record { most = omega arith; in_range = λ i lt. absurd (omega (arith, lt)); rising = λ i j less lt. absurd (omega (arith, lt)) };
+      are_entries = record {
+        most = omega arith;
+        in_range = λ i lt. absurd
+            (omega (arith, lt));
+        rising = λ i j less lt. absurd (omega (arith, lt));
+      };
       tell = λ i lt. absurd (omega (arith, lt));
       log_is = refl;
       head_is = tt;
       base_has = λ n inside none. h.base_has n inside (λ i low high. absurd (omega (arith, low, high)));
       committed_has = λ n inside none. h.committed_has n inside (λ i low high. absurd (omega (arith, low, high)));
       durable_has = λ n inside none.
-          ap (λ (x : ℕ). bit_of x n) ((base_kept old f g v saved h calm (n / BASE_BITS) (omega (arith, inside))).1) ∙ h.base_has n inside (λ i low high. absurd (omega (arith, low, high)));
+          ap (λ (x : ℕ). bit_of x n) ((base_kept old f g v saved h calm (n / BASE_BITS) (omega (arith, inside))).1)
+          ∙ h.base_has n inside (λ i low high. absurd (omega (arith, low, high)));
     }

@@ -60,7 +60,8 @@ count_less p q at (suc n) inside set clear same = elim (cases_eq at n) [
       rw (here, gone, rest) (omega arith)
   | inr earlier ↦
       let here : q n ≡ p n = same n (omega arith) (λ e. earlier (sym e)) in
-      let rest = count_less p q at n (omega (arith, inside, earlier)) set clear (λ m lt ne. same m (omega (arith, lt)) ne) in
+      let rest = count_less p q at n (omega (arith, inside, earlier)) set clear
+      (λ m lt ne. same m (omega (arith, lt)) ne) in
       rw (here, rest) (omega arith)
 ]
 

@@ -55,21 +55,27 @@ durable_kept w f g v saved h calm n inside none =
 
 -- CALM
 
-pub entries_kept : (w : Work) (f g : ℕ → Word) (v : ℕ) (saved : ℕ → Bool) (h : NumbersShow w f v saved) → CalmIn Numbers f g
+pub entries_kept : (w : Work) (f g : ℕ → Word) (v : ℕ) (saved : ℕ → Bool)
+    (h : NumbersShow w f v saved) → CalmIn Numbers f g
     → (i : ℕ) → i < w.entries → WordIs 0 (entry_kind w.stage) (g (log_entry_at i)) (h.entry i)
 entries_kept w f g v saved h calm i lt =
     let most = h.are_entries.most in
-    calm_word 0 (entry_kind w.stage) (f (log_entry_at i)) (g (log_entry_at i)) (h.entry i) (calm.at (log_entry_at i) (owner_entry i (omega (arith, lt, most)))) (h.entry_words i lt)
+    calm_word 0 (entry_kind w.stage) (f (log_entry_at i)) (g (log_entry_at i)) (h.entry i)
+    (calm.at (log_entry_at i) (owner_entry i (omega (arith, lt, most)))) (h.entry_words i lt)
 
-pub head_kept : (w : Work) (f g : ℕ → Word) (v : ℕ) (saved : ℕ → Bool) (h : NumbersShow w f v saved) → CalmIn Numbers f g
+pub head_kept : (w : Work) (f g : ℕ → Word) (v : ℕ) (saved : ℕ → Bool)
+    (h : NumbersShow w f v saved) → CalmIn Numbers f g
     → WordIs 0 (head_kind w.stage h.head) (g LOG_HEAD_AT) (head_value w.stage h.head)
 head_kept w f g v saved h calm =
-    calm_word 0 (head_kind w.stage h.head) (f LOG_HEAD_AT) (g LOG_HEAD_AT) (head_value w.stage h.head) (calm.at LOG_HEAD_AT owner_head) h.head_word
+    calm_word 0 (head_kind w.stage h.head) (f LOG_HEAD_AT) (g LOG_HEAD_AT) (head_value w.stage h.head)
+    (calm.at LOG_HEAD_AT owner_head) h.head_word
 
-pub base_kept : (w : Work) (f g : ℕ → Word) (v : ℕ) (saved : ℕ → Bool) (h : NumbersShow w f v saved) → CalmIn Numbers f g
+pub base_kept : (w : Work) (f g : ℕ → Word) (v : ℕ) (saved : ℕ → Bool)
+    (h : NumbersShow w f v saved) → CalmIn Numbers f g
     → (k : ℕ) → k < BASE_WORDS → WordIs 0 (base_kind w.stage) (g (OBJECT_BASE_AT + k)) (h.base k)
 base_kept w f g v saved h calm k lt =
-    calm_word 0 (base_kind w.stage) (f (OBJECT_BASE_AT + k)) (g (OBJECT_BASE_AT + k)) (h.base k) (calm.at (OBJECT_BASE_AT + k) (owner_base k lt)) (h.base_words k lt)
+    calm_word 0 (base_kind w.stage) (f (OBJECT_BASE_AT + k)) (g (OBJECT_BASE_AT + k)) (h.base k)
+    (calm.at (OBJECT_BASE_AT + k) (owner_base k lt)) (h.base_words k lt)
 
 pub numbers_calm : (w : Work) (f g : ℕ → Word) (v : ℕ) (saved : ℕ → Bool) → CalmIn Numbers f g → NumbersShow w f v saved
     → NumbersShow w g v saved
@@ -121,13 +127,19 @@ counts v n e is = ap (λ (z : ℕ). log_count z v) e ∙ is
 
 head_left : (s : Stage) (w : Work) (head : ℕ) (u : Word) (y : ℕ) → w.entries < 2 ^ 16 → IsHeadAt s w head
     → WordIs 0 (head_kind s head) u (head_value s head) → Left u y → HeadLeft s w y
-head_left Unformatted w head u y most is h l = inl (counts w.version 0 (left_word 0 Clean u 0 y h l) (count_of_none w.version))
-head_left FirstStored w head u y most is h l = inl (counts w.version 0 (left_word 0 Clean u 0 y h l) (count_of_none w.version))
-head_left FirstInFlight w head u y most is h l = inl (counts w.version 0 (left_word 0 Clean u 0 y h l) (count_of_none w.version))
+head_left Unformatted w head u y most is h l = inl
+    (counts w.version 0 (left_word 0 Clean u 0 y h l) (count_of_none w.version))
+head_left FirstStored w head u y most is h l = inl
+    (counts w.version 0 (left_word 0 Clean u 0 y h l) (count_of_none w.version))
+head_left FirstInFlight w head u y most is h l = inl
+    (counts w.version 0 (left_word 0 Clean u 0 y h l) (count_of_none w.version))
 head_left Rest w head u y most is h l = inl (counts w.version 0 (left_word 0 Clean u 0 y h l) (count_of_none w.version))
-head_left StoringEntries w head u y most is h l = inl (counts w.version 0 (left_word 0 Clean u 0 y h l) (count_of_none w.version))
-head_left EntriesInFlight w head u y most is h l = inl (counts w.version 0 (left_word 0 Clean u 0 y h l) (count_of_none w.version))
-head_left EntriesDurable w head u y most is h l = inl (counts w.version 0 (left_word 0 Clean u 0 y h l) (count_of_none w.version))
+head_left StoringEntries w head u y most is h l = inl
+    (counts w.version 0 (left_word 0 Clean u 0 y h l) (count_of_none w.version))
+head_left EntriesInFlight w head u y most is h l = inl
+    (counts w.version 0 (left_word 0 Clean u 0 y h l) (count_of_none w.version))
+head_left EntriesDurable w head u y most is h l = inl
+    (counts w.version 0 (left_word 0 Clean u 0 y h l) (count_of_none w.version))
 head_left HeadStored w head u y most is h l = elim (left_word 0 (Over 0) u head y h l) [
   | inl new ↦ inl (counts w.version 0 (new ∙ is) (count_of_next w.version w.entries most))
   | inr none ↦ inl (counts w.version 0 none (count_of_none w.version))
@@ -162,7 +174,8 @@ counted_most w most =
     (cases_Bool (is_redo w.stage))
 
 -- they are entries of a log
-counted_entries : (w : Work) (entry other : ℕ → ℕ) → ((i : ℕ) → i < counted w → other i ≡ entry i) → AreEntries entry w.entries
+counted_entries : (w : Work)
+    (entry other : ℕ → ℕ) → ((i : ℕ) → i < counted w → other i ≡ entry i) → AreEntries entry w.entries
     → AreEntries other (counted w)
 counted_entries w entry other same log = record {
   most = counted_most w log.most;
@@ -199,9 +212,11 @@ numbers_stand w f left v saved may h =
     let inside = c.1 in
     entry_left w.stage (f (log_entry_at i)) (h.entry i) (left (log_entry_at i)) c.0 (h.entry_words i inside)
     (may.at (log_entry_at i) (owner_entry i (omega (arith, inside, most)))) in
-    elim (head_left w.stage w h.head (f LOG_HEAD_AT) (left LOG_HEAD_AT) (omega (arith, most)) h.head_is h.head_word (may.at LOG_HEAD_AT owner_head)) [
+    elim (head_left w.stage w h.head (f LOG_HEAD_AT) (left LOG_HEAD_AT) (omega (arith, most)) h.head_is h.head_word
+    (may.at LOG_HEAD_AT owner_head)) [
       | inl all ↦
-          let count : count_at left v ≡ counted w = subst (λ (x : ℕ). log_count (left LOG_HEAD_AT) x ≡ counted w) h.version_is all in
+          let count : count_at left v ≡ counted w = subst
+          (λ (x : ℕ). log_count (left LOG_HEAD_AT) x ≡ counted w) h.version_is all in
           record {
             log = rw count (counted_entries w h.entry (entries left) entry_is h.are_entries);
             each = λ n inside. rw count (redone_is (entries left) n (base_bit left n) (saved n) (counted w)
@@ -213,14 +228,22 @@ numbers_stand w f left v saved may h =
                 (λ none. base_left n inside (λ i low lt of. none i low lt (ap number_of (entry_is i lt) ∙ of))));
           }
       | inr cleared ↦
-          let count : count_at left v ≡ 0 = subst (λ (x : ℕ). log_count (left LOG_HEAD_AT) x ≡ 0) h.version_is cleared.0 in
+          let count : count_at left v ≡ 0 = subst
+          (λ (x : ℕ). log_count (left LOG_HEAD_AT) x ≡ 0) h.version_is cleared.0 in
           record {
-            log = rw count (record { most = omega arith; in_range = λ i lt. absurd (omega (arith, lt)); rising = λ i j less lt. absurd (omega (arith, lt)) });
+            log = rw count (record {
+              most = omega arith;
+              in_range = λ i lt. absurd
+                  (omega (arith, lt));
+              rising = λ i j less lt. absurd (omega (arith, lt));
+            });
             each = λ n inside. rw count (
                 let k = n / BASE_BITS in
                 let lt : k < BASE_WORDS = omega (arith, inside) in
-                let clean : WordIs 0 Clean (f (base_at n)) (h.base k) = subst (λ (d : Kind). WordIs 0 d (f (base_at n)) (h.base k)) cleared.1 (h.base_words k lt) in
-                let same = left_word 0 Clean (f (base_at n)) (h.base k) (left (base_at n)) clean (may.at (base_at n) (owner_base k lt)) in
+                let clean : WordIs 0 Clean (f (base_at n)) (h.base k) = subst
+                (λ (d : Kind). WordIs 0 d (f (base_at n)) (h.base k)) cleared.1 (h.base_words k lt) in
+                let same = left_word 0 Clean (f (base_at n)) (h.base k) (left (base_at n)) clean
+                (may.at (base_at n) (owner_base k lt)) in
                 ap (λ (y : ℕ). bit_of y n) same ∙ h.base_has n inside (λ i low high.
                 let c = counted_redo w i high in
                 let all = cleared.2 in
@@ -247,14 +270,18 @@ numbers_commit w f v saved e all =
       are_entries = h.are_entries;
       tell = h.tell;
       log_is = tt;
-      head_is = counts (w.version + 1) w.entries h.head_is (count_of_named (w.version + 1) w.entries (omega (arith, most)));
-      base_has = λ n inside none. h.base_has n inside (λ i low high. absurd (omega (arith, high))) ∙ sym (h.committed_has n inside (λ i low high. absurd (omega (arith, high)))) ∙ h.log_is n inside none;
+      head_is = counts (w.version + 1) w.entries h.head_is
+          (count_of_named (w.version + 1) w.entries (omega (arith, most)));
+      base_has = λ n inside none. h.base_has n inside (λ i low high. absurd (omega (arith, high)))
+          ∙ sym (h.committed_has n inside (λ i low high. absurd (omega (arith, high)))) ∙ h.log_is n inside none;
       committed_has = λ n inside none. refl;
-      durable_has = λ n inside none. h.durable_has n inside (λ i low high. absurd (omega (arith, high))) ∙ sym (h.committed_has n inside (λ i low high. absurd (omega (arith, high)))) ∙ h.log_is n inside none;
+      durable_has = λ n inside none. h.durable_has n inside (λ i low high. absurd (omega (arith, high)))
+          ∙ sym (h.committed_has n inside (λ i low high. absurd (omega (arith, high)))) ∙ h.log_is n inside none;
     }
 
 -- the numbers are told by the words that are theirs
-pub numbers_same : (a b : ℕ → ℕ) (v : ℕ) (numbers : ℕ → Bool) → SameIn Numbers a b → NumbersStand a v numbers → NumbersStand b v numbers
+pub numbers_same : (a b : ℕ → ℕ) (v : ℕ)
+    (numbers : ℕ → Bool) → SameIn Numbers a b → NumbersStand a v numbers → NumbersStand b v numbers
 numbers_same a b v numbers same h =
     let count : count_at b v ≡ count_at a v = ap (λ (x : ℕ). log_count x v) (same.at LOG_HEAD_AT owner_head) in
     let most = h.log.most in
@@ -269,12 +296,14 @@ numbers_same a b v numbers same h =
             (subst (λ (y : ℕ). number_of (entries a i) < number_of y) (sym (entry_is j lt)) (h.log.rising i j less lt));
       });
       each = λ n inside. rw count (redone_same (entries a) (entries b) n (base_bit b n) (count_at a v) entry_is
-          ∙ ap (λ (x : ℕ). redone (entries a) n (bit_of x n) (count_at a v)) (same.at (base_at n) (owner_base (n / BASE_BITS) (omega (arith, inside))))
+          ∙ ap (λ (x : ℕ). redone (entries a) n (bit_of x n) (count_at a v))
+          (same.at (base_at n) (owner_base (n / BASE_BITS) (omega (arith, inside))))
           ∙ h.each n inside);
     }
 
 -- what is read of a memory after a cut shows what its durable words tell
-pub numbers_recovered : (w : Work) (f : ℕ → Word) (v : ℕ) (saved : ℕ → Bool) → w.stage ≡ Redoing → w.version ≡ v → w.redone ≡ 0
+pub numbers_recovered : (w : Work) (f : ℕ → Word) (v : ℕ)
+    (saved : ℕ → Bool) → w.stage ≡ Redoing → w.version ≡ v → w.redone ≡ 0
     → (count_at (λ i. (f i).durable) v ≤ NUMBERS → w.entries ≡ count_at (λ i. (f i).durable) v)
     → ((k : ℕ) → k < BASE_WORDS → slice_index w.committed k ≡ (f (OBJECT_BASE_AT + k)).cached)
     → ((i : ℕ) → owner i ≡ Numbers → WordIs 0 Clean (f i) ((f i).durable))
@@ -282,11 +311,13 @@ pub numbers_recovered : (w : Work) (f : ℕ → Word) (v : ℕ) (saved : ℕ →
 numbers_recovered w f v saved e at none count committed clean stand =
     let words : ℕ → ℕ = λ i. (f i).durable in
     let all : w.entries ≡ count_at words v = count stand.log.most in
-    let log : AreEntries (entries words) w.entries = subst (λ (n : ℕ). AreEntries (entries words) n) (sym all) stand.log in
+    let log : AreEntries (entries words) w.entries = subst (λ (n : ℕ). AreEntries (entries words) n)
+    (sym all) stand.log in
     let each : (n : ℕ) → n < NUMBERS → redone (entries words) n (base_bit words n) w.entries ≡ saved n =
     λ n inside. ap (λ (m : ℕ). redone (entries words) n (base_bit words n) m) all ∙ stand.each n inside in
     let none_of : (n : ℕ) → n < NUMBERS → IsUnnamed (entries words) w.redone w.entries n → base_bit words n ≡ saved n =
-    λ n inside left. sym (redone_unnamed (entries words) n (base_bit words n) w.entries (λ i low high. left i (omega (arith, none)) high)) ∙ each n inside in
+    λ n inside left. sym (redone_unnamed (entries words) n (base_bit words n) w.entries
+    (λ i low high. left i (omega (arith, none)) high)) ∙ each n inside in
     let most = log.most in
     let show : NumbersShow (record w { stage = Redoing }) f v saved = record {
       version_is = at;
@@ -297,14 +328,17 @@ numbers_recovered w f v saved e at none count committed clean stand =
       head_word = clean LOG_HEAD_AT owner_head;
       base_words = λ k lt. (clean (OBJECT_BASE_AT + k) (owner_base k lt)).0;
       are_entries = log;
-      tell = λ i lt. sym (each (number_of (entries words i)) (log.in_range i lt)) ∙ redone_named (entries words) (number_of (entries words i)) (base_bit words (number_of (entries words i))) w.entries log i lt refl;
+      tell = λ i lt. sym (each (number_of (entries words i)) (log.in_range i lt))
+          ∙ redone_named (entries words) (number_of (entries words i))
+          (base_bit words (number_of (entries words i))) w.entries log i lt refl;
       log_is = tt;
       head_is = ap (log_count (words LOG_HEAD_AT)) at ∙ sym all;
       base_has = none_of;
       committed_has = λ n inside left.
           let k = n / BASE_BITS in
           let lt : k < BASE_WORDS = omega (arith, inside) in
-          ap (λ (x : ℕ). bit_of x n) (committed k lt ∙ (clean (OBJECT_BASE_AT + k) (owner_base k lt)).0) ∙ none_of n inside left;
+          ap (λ (x : ℕ). bit_of x n) (committed k lt ∙ (clean (OBJECT_BASE_AT + k) (owner_base k lt)).0)
+          ∙ none_of n inside left;
       durable_has = λ n inside left. none_of n inside (λ i low high. left i (omega arith) high);
     } in
     subst (λ (s : Stage). NumbersShow (record w { stage = s }) f v saved) (sym e) show
@@ -326,7 +360,8 @@ format_calm w f g calm h = record {
   version_is = h.version_is;
   no_entries = h.no_entries;
   head_word = calm_word 0 Clean (f LOG_HEAD_AT) (g LOG_HEAD_AT) 0 (calm.at LOG_HEAD_AT owner_head) h.head_word;
-  base_words = λ k lt. calm_word 0 (first_kind w.stage) (f (OBJECT_BASE_AT + k)) (g (OBJECT_BASE_AT + k)) (slice_index w.committed k) (calm.at (OBJECT_BASE_AT + k) (owner_base k lt)) (h.base_words k lt);
+  base_words = λ k lt. calm_word 0 (first_kind w.stage) (f (OBJECT_BASE_AT + k)) (g (OBJECT_BASE_AT + k))
+      (slice_index w.committed k) (calm.at (OBJECT_BASE_AT + k) (owner_base k lt)) (h.base_words k lt);
 }
 
 -- a memory that is formatted is at rest, at version 0
@@ -352,7 +387,8 @@ formatted w f e all =
       head_is = tt;
       base_has = λ n inside unnamed. refl;
       committed_has = λ n inside unnamed. refl;
-      durable_has = λ n inside unnamed. ap (λ (x : ℕ). bit_of x n) ((h.base_words (n / BASE_BITS) (omega (arith, inside))).1);
+      durable_has = λ n inside unnamed. ap (λ (x : ℕ). bit_of x n)
+          ((h.base_words (n / BASE_BITS) (omega (arith, inside))).1);
     } in
     subst (λ (s : Stage). NumbersShow (record w { stage = s }) f 0 (has w.committed)) (sym e) show
 

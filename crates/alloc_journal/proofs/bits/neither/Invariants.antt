@@ -4,4 +4,5 @@ use Rattle.alloc_journal.proofs.bits.neither.Given as goal
 
 abbrev pub invariant-loop-word : goal.invariant-loop-word
 invariant-loop-word l =
-    (length l.bits ≡ 10) × ((k n : ℕ) → k < l.word → bit_of (slice_index l.bits k) n ≡ not (bit_of (slice_index l.a k) n || bit_of (slice_index l.b k) n))
+    (length l.bits ≡ 10) × ((k n : ℕ) → k < l.word → bit_of (slice_index l.bits k) n ≡ not
+    (bit_of (slice_index l.a k) n || bit_of (slice_index l.b k) n))

@@ -5,4 +5,5 @@ pub returns-clause-calm : goal.returns-clause-calm
 returns-clause-calm c = numbers_calm
 
 pub returns-clause-fenced : goal.returns-clause-fenced
-returns-clause-fenced c = λ w f g core v saved fenced h. numbers_calm w f g v saved (record { at = λ i own. (fenced.at i own).calm }) h
+returns-clause-fenced c = λ w f g core v saved fenced h. numbers_calm w f g v saved
+    (record { at = λ i own. (fenced.at i own).calm }) h

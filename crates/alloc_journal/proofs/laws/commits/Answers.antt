@@ -14,4 +14,5 @@ pub returns-clause-once : goal.returns-clause-once
 returns-clause-once c = λ w e. let is : is_logged w.stage ≡ true = ap is_logged e in rw is refl
 
 pub returns-clause-stands : goal.returns-clause-stands
-returns-clause-stands c = λ w f left v saved e may h. numbers_stand (as_committed w) f left (v + 1) (has w.logged) may (numbers_commit w f v saved e h)
+returns-clause-stands c = λ w f left v saved e may h. numbers_stand (as_committed w) f left (v + 1) (has w.logged) may
+    (numbers_commit w f v saved e h)

@@ -11,4 +11,5 @@ pub returns-clause-stands : goal.returns-clause-stands
 returns-clause-stands c = cut_stands
 
 pub returns-clause-next : goal.returns-clause-next
-returns-clause-next c = λ w f g v saved e cut h. cut_stands (as_committed w) f g (v + 1) (has w.logged) cut (numbers_commit w f v saved e h)
+returns-clause-next c = λ w f g v saved e cut h. cut_stands (as_committed w) f g (v + 1) (has w.logged) cut
+    (numbers_commit w f v saved e h)

@@ -8,7 +8,8 @@ use Rattle.alloc_journal.proofs.journal.Journal.recover.Goals as goal
 
 pub returns-clause-shows : goal.returns-clause-shows
 returns-clause-shows c = λ saved clean stand.
-    let head : c.read.result ≡ (word_at c.args.nvm.now LOG_HEAD_AT).durable = c.read.ensures ∙ (clean LOG_HEAD_AT owner_head).0 in
+    let head : c.read.result ≡ (word_at c.args.nvm.now LOG_HEAD_AT).durable = c.read.ensures
+    ∙ (clean LOG_HEAD_AT owner_head).0 in
     numbers_recovered _ (word_at c.args.nvm.now) c.args.version saved refl refl refl
     (subst (λ (x : ℕ). log_count x c.args.version ≤ NUMBERS → c.entries_at.result ≡ log_count x c.args.version) head c.entries_at.ensures.count)
     c.read_base-base.ensures clean stand

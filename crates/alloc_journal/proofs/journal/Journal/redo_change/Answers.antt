@@ -14,8 +14,10 @@ returns-clause-rest c =
 
 pub returns-clause-shows : goal.returns-clause-shows
 returns-clause-shows c = λ v saved says h.
-    entry_redone (work_of c.args.self.now) (word_at c.args.nvm.now) (word_at c.store.new.nvm) v saved c.args.change.number _ c.put.new.bits
-    c.requires.stage c.requires.some says.0 (c.put.ensures.changed ∙ says.1) c.put.ensures.others refl c.store.ensures.words h
+    entry_redone (work_of c.args.self.now) (word_at c.args.nvm.now)
+    (word_at c.store.new.nvm) v saved c.args.change.number _ c.put.new.bits
+    c.requires.stage c.requires.some says.0
+    (c.put.ensures.changed ∙ says.1) c.put.ensures.others refl c.store.ensures.words h
 
 pub returns-clause-exact : goal.returns-clause-exact
 returns-clause-exact c = λ v saved says h exact.

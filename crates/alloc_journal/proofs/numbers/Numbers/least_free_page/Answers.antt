@@ -11,6 +11,7 @@ returns-clause-none c =
     let at : OBJECTS + (number - OBJECTS) ≡ number = omega (arith, low) in (
       λ no. cc,
       λ all.
-          let used = subst (λ n. is_used c.args.self.now n ≡ true) at (all (number - OBJECTS) (omega (arith, low, high))) in
+          let used = subst (λ n. is_used c.args.self.now n ≡ true) at
+          (all (number - OBJECTS) (omega (arith, low, high))) in
           sym c.in_ok-number.ensures.found ∙ c.free_numbers.ensures number high ∙ ap not used,
     )

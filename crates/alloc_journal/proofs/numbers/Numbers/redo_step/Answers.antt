@@ -6,5 +6,6 @@ use Rattle.alloc_journal.proofs.numbers.Numbers.redo_step.Goals as goal
 
 pub returns-clause-exact : goal.returns-clause-exact
 returns-clause-exact c = λ v saved h exact.
-    c.redo_step-done.ensures.exact v saved (subst (λ (u : InUse). NumbersShow u.work (word_at c.args.nvm.now) v saved) (sym c.self.view_is) h)
+    c.redo_step-done.ensures.exact v saved
+    (subst (λ (u : InUse). NumbersShow u.work (word_at c.args.nvm.now) v saved) (sym c.self.view_is) h)
     (subst (λ (u : InUse). IsExact u.work saved) (sym c.self.view_is) exact)
