@@ -8,4 +8,5 @@ pub mod Words
 pub mod Inputs
 pub mod Chooses
 pub mod Reached
+pub mod Seen
 pub mod Fetches

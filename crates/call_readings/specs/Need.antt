@@ -5,6 +5,8 @@ use Rattle.sls_base.specs.declared.limits.TheConstants.{PAGES}
 use Rattle.sls_base.specs.declared.rights.TheConstants.{EXECUTE}
 use Rattle.sls_base.specs.declared.thread.Thread.{Thread as ThreadRecord}
 use Rattle.pmem_model.specs.Memory.{Memory}
+use Rattle.plain_state.specs.declared.objects.Region.{Region}
+use Rattle.plain_model.specs.Objects.{Object}
 use Rattle.plain_model.specs.States.{State, thread_at}
 use Rattle.plain_model.specs.Memory.{page_at, place_of}
 use Rattle.plain_model.specs.Instructions.{seen_by}
@@ -16,10 +18,13 @@ use Rattle.call_readings.specs.Content.{is_page_home}
 abbrev pub has_page : List ℕ → ℕ → Bool
 has_page pages page = list_any (λ other. other == page) pages
 
--- the number of the page from which a thread's instruction is fetched, if it can be
+-- the number of the page on which the byte at an address stands, for a right, if it is there
+abbrev pub page_seen : (ℕ → Option Object) → List Region → ℕ → ℕ → Option ℕ
+page_seen objects regions right at = option_map (λ place. (page_at objects place).number) (place_of regions right at)
+
+-- that of the page from which a thread's instruction is fetched
 abbrev pub page_of_pc : State → ThreadRecord → Option ℕ
-page_of_pc s thread =
-    option_map (λ place. (page_at s.objects place).number) (place_of (seen_by s thread) EXECUTE thread.pc)
+page_of_pc s thread = page_seen s.objects (seen_by s thread) EXECUTE thread.pc
 
 -- the same of the thread that a core runs next
 abbrev pub fetched_of : State → Option Chosen → Option ℕ

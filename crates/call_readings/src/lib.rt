@@ -4,6 +4,7 @@
 
 mod content;
 mod devices;
+mod load;
 mod named;
 mod need;
 mod numbers;
@@ -14,6 +15,7 @@ mod regions;
 
 pub use content::{WORD_BYTES, number_on_page};
 pub use devices::Devices;
+pub use load::number_at;
 pub use named::{cap_named, id_named};
 pub use need::{Need, need_of_core};
 pub use numbers::NumbersInUse;

@@ -12,15 +12,15 @@ use pmem_layout::{BASE_BITS, is_in_base, with_bit};
 use sls_base::{OBJECTS, ObjId, PAGES, PageNo};
 
 /// The words that have a bit for each object.
-const OBJECT_WORDS: usize = OBJECTS / BASE_BITS;
+const OBJECT_SET_WORDS: usize = OBJECTS / BASE_BITS;
 /// The words that have a bit for each page.
-const PAGE_WORDS: usize = PAGES / BASE_BITS;
+const PAGE_SET_WORDS: usize = PAGES / BASE_BITS;
 
 /// The numbers of objects and of pages that are in use, by the running state or by the saved one.
 #[derive(Clone, Copy)]
 pub struct NumbersInUse {
-    pub objects: [u64; OBJECT_WORDS],
-    pub pages: [u64; PAGE_WORDS],
+    pub objects: [u64; OBJECT_SET_WORDS],
+    pub pages: [u64; PAGE_SET_WORDS],
 }
 
 /// Whether a number is in a set.
@@ -43,7 +43,7 @@ fn insert(words: &mut [u64], number: usize)
 
 /// The least number that isn't in a set. It is None exactly where each of those that it can have is.
 fn least_absent(words: &[u64]) -> Option<usize>
-    requires few { length words.now ≤ PAGE_WORDS }
+    requires few { length words.now ≤ PAGE_SET_WORDS }
     ensures range { IfSome result (λ number. number < BASE_BITS * length words.now) }
     ensures absent { IfSome result (λ number. sets.is_in words.now number ≡ false) }
     ensures least { result
@@ -59,7 +59,7 @@ fn least_absent(words: &[u64]) -> Option<usize>
 
 /// How many numbers are not in a set.
 fn count_of_absent(words: &[u64]) -> usize
-    requires few { length words.now ≤ PAGE_WORDS }
+    requires few { length words.now ≤ PAGE_SET_WORDS }
     ensures { result ≡ length (filter (λ number. not (sets.is_in words.now number))
         (range_with_len 0 (BASE_BITS * length words.now))) }
 {
@@ -81,8 +81,8 @@ impl NumbersInUse {
         ensures pages { (page : ℕ) → uses_page result page ≡ false }
     {
         NumbersInUse {
-            objects: [0; OBJECT_WORDS],
-            pages: [0; PAGE_WORDS],
+            objects: [0; OBJECT_SET_WORDS],
+            pages: [0; PAGE_SET_WORDS],
         }
     }
 

@@ -199,8 +199,8 @@ fn caller(call: u32, arguments: [u32; 6], pc: u32) -> Thread {
     }
 }
 
-/// A kernel of two cores in which nobody runs, with an input of 8 bytes.
-fn small_kernel() -> Kernel {
+/// The objects of a kernel of two cores in which nobody runs.
+fn small_objects() -> Objects {
     let mut objects = Objects::new();
     objects.put(0, Slot::Group(Group::new()));
     objects.put(
@@ -247,6 +247,11 @@ fn small_kernel() -> Kernel {
     });
     objects.put(FULL_GROUP, Slot::Group(Group { slots: [cap; 32] }));
     objects.put(FULL_SPACE, Slot::Space(full_space()));
+    objects
+}
+
+/// A kernel with these objects, and with an input of 8 bytes.
+fn small_kernel() -> Kernel {
     let mut numbers = NumbersInUse::new();
     for id in 0..17u8 {
         numbers.take_object(id);
@@ -257,7 +262,7 @@ fn small_kernel() -> Kernel {
         }
     }
     Kernel {
-        objects,
+        objects: small_objects(),
         numbers,
         devices: Devices {
             accepted: [5, 6, 0, 0],

@@ -1,7 +1,6 @@
-use Rattle.std.proofs.Common.{◌≡◌, ◌∙◌, ℕ, List, [], ◌∷◌, ◌++◌, Bool, true, false, Some, None, ap, sym, refl, inl, inr, rules}
+use Rattle.std.proofs.Common.{◌≡◌, ◌∙◌, ℕ, List, [], ◌∷◌, ◌++◌, Bool, true, false, Some, None, ap, sym, refl, rules}
 use Rattle.std.specs.Prelude.{◌||◌, ◌==◌, option_map}
-use Rattle.std.proofs.lemmas.Bool.{cases_lt, false≢true}
-use Rattle.sls_base.specs.declared.limits.TheConstants.{PAGES}
+use Rattle.std.proofs.lemmas.Bool.{false≢true}
 use Rattle.sls_base.specs.declared.rights.TheConstants.{EXECUTE}
 use Rattle.rv_table.specs.Decoded.{decoded}
 use Rattle.pmem_layout.specs.Places.{runtime_frame}
@@ -15,7 +14,8 @@ use Rattle.kobj_table.specs.Slots.{page_of}
 use Rattle.kobj_table.specs.Objects.{state_of}
 use Rattle.call_readings.specs.Kernel.{world_of}
 use Rattle.call_readings.specs.Need.{has_page}
-use Rattle.call_readings.proofs.Fetches.{found_at, nothing_at, stops_there, word_is, fetched_on, page_of_place, page_from}
+use Rattle.call_readings.proofs.Seen.{found_at, nothing_at}
+use Rattle.call_readings.proofs.Fetches.{stops_there, word_is, fetched_on, page_of_place, page_from, home_told}
 use Rattle.call_readings.proofs.Reached.{or_none, or_three}
 use Rattle.call_readings.proofs.need.need_of_thread.Goals as goal
 
@@ -108,11 +108,9 @@ returns-else-is_home-clause-touched c w rest page counted attached reads aligned
     let thread = c.args.thread.now in
     let from = c.in-Some.page in
     let some : Some (page_of rest.content from) ≡ option_map (page_at s.objects) (place_of (seen_by s thread) EXECUTE thread.pc) = search rules in
-    let at = found_at s.objects rest.content (seen_by s thread) EXECUTE thread.pc from some in
-    absurd (elim (cases_lt from.page PAGES) [
-      | inl inside ↦ false≢true (sym c.if-is_home.false ∙ c.is_home.ensures.home inside ∙ home from.page (page_of_place s thread rest.content from at) inside)
-      | inr past ↦ false≢true (sym c.if-is_home.false ∙ c.is_home.ensures.past past)
-    ])
+    let there = page_of_place s thread rest.content from (found_at s.objects rest.content (seen_by s thread) EXECUTE thread.pc from some) in
+    let told = home_told from.page c.is_home.result _ c.is_home.ensures.home c.is_home.ensures.past (λ inside. home from.page there inside) in
+    absurd (false≢true (sym c.if-is_home.false ∙ told))
 
 pub returns-else-is_home-clause-stored : goal.returns-else-is_home-clause-stored
 unfolding world_of state_of
@@ -121,11 +119,9 @@ returns-else-is_home-clause-stored c w rest page counted attached reads aligned 
     let thread = c.args.thread.now in
     let from = c.in-Some.page in
     let some : Some (page_of rest.content from) ≡ option_map (page_at s.objects) (place_of (seen_by s thread) EXECUTE thread.pc) = search rules in
-    let at = found_at s.objects rest.content (seen_by s thread) EXECUTE thread.pc from some in
-    absurd (elim (cases_lt from.page PAGES) [
-      | inl inside ↦ false≢true (sym c.if-is_home.false ∙ c.is_home.ensures.home inside ∙ home from.page (page_of_place s thread rest.content from at) inside)
-      | inr past ↦ false≢true (sym c.if-is_home.false ∙ c.is_home.ensures.past past)
-    ])
+    let there = page_of_place s thread rest.content from (found_at s.objects rest.content (seen_by s thread) EXECUTE thread.pc from some) in
+    let told = home_told from.page c.is_home.result _ c.is_home.ensures.home c.is_home.ensures.past (λ inside. home from.page there inside) in
+    absurd (false≢true (sym c.if-is_home.false ∙ told))
 
 pub returns-else-is_home-clause-away : goal.returns-else-is_home-clause-away
 unfolding state_of
