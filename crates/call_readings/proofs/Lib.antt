@@ -10,3 +10,5 @@ pub mod Chooses
 pub mod Reached
 pub mod Seen
 pub mod Fetches
+pub mod Recounts
+pub mod SameObjects

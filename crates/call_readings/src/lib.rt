@@ -10,6 +10,7 @@ mod need;
 mod numbers;
 mod pages;
 mod reach;
+mod recount;
 mod refusals;
 mod regions;
 

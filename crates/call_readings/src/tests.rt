@@ -495,6 +495,22 @@ fn without_an_input_there_is_nothing_to_get(rt: HostRuntime) {
 }
 
 #[test]
+fn objects_use_their_numbers_and_those_of_their_pages(rt: HostRuntime) {
+    let numbers = NumbersInUse::of(&small_objects());
+    for id in 0..128u8 {
+        assert_eq!(rt;
+            numbers.uses_object(id),
+            id < 17 && id != THREAD,
+            "object {id}"
+        );
+    }
+    for page in 0..512u16 {
+        let is_used = page < 4 || page >= CODE_PAGE && page <= SECOND_PAGE;
+        assert_eq!(rt; numbers.uses_page(page), is_used, "page {page}");
+    }
+}
+
+#[test]
 fn the_least_number_that_is_free_comes_first(rt: HostRuntime) {
     let mut numbers = NumbersInUse::new();
     for id in 0..128u8 {
