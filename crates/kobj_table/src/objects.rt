@@ -329,6 +329,7 @@ impl Objects {
         ensures state { (rest : Rest) → has_list (slot_at self.old SCHEDULER) ≡ false → state_of self.new rest
             ≡ state_with_queue (state_of self.old rest) (drop 1 (state_of self.old rest).queue) }
         ensures left { list_at self.new.links RUN_QUEUE ≡ drop 1 (list_at self.old.links RUN_QUEUE) }
+        ensures same { IfNone result (self.new ≡ self.old) }
         ensures others { (i : ℕ) → i ≢ RUN_QUEUE → list_at self.new.links i ≡ list_at self.old.links i }
         ensures slots { self.new.slots ≡ self.old.slots }
         ensures range { IfSome result (λ id. id < OBJECTS) }
