@@ -1,0 +1,15 @@
+pub mod Unrefused
+pub mod Objects
+pub mod Numbers
+pub mod Frames
+pub mod Caps
+pub mod Groups
+pub mod Places
+pub mod Made
+pub mod Queues
+pub mod Threads
+pub mod Notes
+pub mod Connections
+pub mod Spaces
+pub mod Taken
+pub mod Ticks

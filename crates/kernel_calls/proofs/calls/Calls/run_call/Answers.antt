@@ -1,0 +1,23 @@
+use Rattle.std.proofs.Common.{◌≡◌, ◌-◌, refl, subst, ℕ}
+use Rattle.sls_base.specs.declared.thread.Thread.{Thread as ThreadRecord}
+use Rattle.kobj_table.specs.Objects.{state_of}
+use Rattle.plain_state.specs.States.{thread_at}
+use Rattle.kernel_calls.specs.Ticking.{Settles}
+use Rattle.kernel_calls.proofs.Ticks.{ticked}
+use Rattle.kernel_calls.proofs.calls.Calls.run_call.Goals as goal
+
+pub settle-requires-clause-free : goal.settle-requires-clause-free
+settle-requires-clause-free c back = c.ecall-done.ensures.keeps.free c.saturating_sub.result back
+
+pub returns-clause-state : goal.returns-clause-state
+unfolding state_of
+returns-clause-state c w rest h attached =
+    let o = c.args.self.now.objects in
+    let id = c.args.next.0 in
+    let m = c.ecall-done.new.self.objects in
+    let n = c.settle.new.self.objects in
+    let thread_is : c.args.thread.now ≡ thread_at (state_of o rest) id = rw c.requires.caller.there refl in
+    let left_is : c.saturating_sub.result ≡ c.args.next.1 - 1 = c.saturating_sub.ensures in
+    let settles = subst (λ (t : ThreadRecord). Settles m n c.args.core id (c.args.next.1 - 1) t c.ecall-done.result) thread_is
+    (subst (λ (left : ℕ). Settles m n c.args.core id left c.args.thread.now c.ecall-done.result) left_is c.settle.ensures.settles) in
+    ticked c.args.self.now c.ecall-done.new.self n rest w c.args.core id c.args.next.1 _ c.ecall-done.result (c.ecall-done.ensures.does w rest h attached) settles c.requires.held.held.scheduler

@@ -1,0 +1,75 @@
+-- What a call did to the running kernel, measured by an effect of the plain machine.
+use Rattle.std.specs.Prelude.{◌≡◌, ℕ, ◌==◌, ◌||◌, ◌++◌, true, false, [], Some, None}
+use Rattle.sls_base.specs.declared.fixed.TheConstants.{SCHEDULER}
+use Rattle.sls_base.specs.declared.thread.Thread.{Thread as ThreadRecord}
+use Rattle.link_lists.specs.Lists.{list_at, IsFree}
+use Rattle.ipc_note.specs.declared.lists.TheConstants.{RUN_QUEUE}
+use Rattle.plain_state.specs.declared.calls.Call.{Call}
+use Rattle.plain_state.specs.declared.effect.Goes.TheVariants.{Back}
+use Rattle.plain_state.specs.Worlds.{World}
+use Rattle.plain_state.specs.Effects.{Effect}
+use Rattle.plain_state.specs.CallRefusals.{refusal_of}
+use Rattle.plain_state.specs.CallEffects.{effect_of_call, makes, new_id}
+use Rattle.plain_state.specs.declared.objects.Kind.TheVariants.{GroupKind}
+use Rattle.plain_state.specs.Objects.{Object, is_kind}
+use Rattle.call_readings.specs.NumberSets.{uses_object}
+use Rattle.plain_state.specs.Ticks.{with_changes, at_slice_end}
+use Rattle.kobj_table.specs.Objects.{Rest, slot_at, object_at, HasNoStrays}
+use Rattle.call_readings.specs.Kernel.{world_of, IsCounted}
+use Rattle.kernel_calls.specs.declared.calls.Calls.{Calls}
+use Rattle.kernel_calls.specs.declared.done.Done.{Done}
+use Rattle.kernel_calls.specs.Kernel.{Allowed}
+
+-- What becomes of the caller is what the effect says.
+pub record Tells (done : Done) (e : Effect) : Type 0 where
+  pub regs : done.regs ≡ e.regs
+  pub goes : done.goes ≡ e.goes
+  pub wishes : done.wishes ≡ e.wishes
+
+-- An effect stores nothing, puts no entry and takes no input.
+pub record IsQuiet (e : Effect) : Type 0 where
+  pub stores : e.stores ≡ []
+  pub output : e.output ≡ None
+  pub takes : e.takes ≡ false
+
+-- The objects have changed, the threads that it makes Ready stand at the queue's back, and what becomes of the caller is
+-- told; nothing else is another. The numbers in use are the world's again. The effect does nothing else.
+pub record Does (old new : Calls) (rest : Rest) (w : World) (e : Effect) (done : Done) : Type 0 where
+  pub objects : (i : ℕ) → object_at rest.content new.objects i
+      ≡ with_changes (object_at rest.content old.objects) e.changes i
+  pub queue : list_at new.objects.links RUN_QUEUE ≡ list_at old.objects.links RUN_QUEUE ++ e.wakes
+  pub scheduler : slot_at new.objects SCHEDULER ≡ slot_at old.objects SCHEDULER
+  pub counted : IsCounted new.numbers (world_of new.objects rest w)
+  pub caller : Tells done e
+  pub quiet : IsQuiet e
+
+-- Where the thread may do the call, that is what the call's effect says, for each world whose numbers are those in use and
+-- in which the call isn't refused.
+abbrev pub DoesCall : Calls → Calls → ℕ → ThreadRecord → Call → Done → Type 0
+DoesCall old new me thread call done =
+    (w : World) (rest : Rest) → IsCounted old.numbers (world_of old.objects rest w)
+    → refusal_of (world_of old.objects rest w) me thread call ≡ None → Allowed old me thread call
+    → Does old new rest w (effect_of_call (world_of old.objects rest w) me thread call) done
+
+-- No list but the run queue and those of objects has threads, and a caller that goes to the queue's back is in none.
+pub record Keeps (new : Calls) (me : ℕ) (done : Done) : Type 0 where
+  pub strays : HasNoStrays new.objects
+  pub free : (left : ℕ) → at_slice_end left done.goes ≡ Back → IsFree new.objects.links me
+
+-- An object came to stand at the least number that is free, and the caller's own group has a capability to it. Its number
+-- is in use, and no other came to be; of its pages nothing is said.
+pub record Makes (old new : Calls) (rest : Rest) (w : World) (thread : ThreadRecord) (object : Object) (done : Done) : Type 0 where
+  pub objects : (i : ℕ) → object_at rest.content new.objects i
+      ≡ with_changes (object_at rest.content old.objects) (makes (world_of old.objects rest w) thread object).changes i
+  pub links : new.objects.links ≡ old.objects.links
+  pub scheduler : slot_at new.objects SCHEDULER ≡ slot_at old.objects SCHEDULER
+  pub unused : object_at rest.content old.objects (new_id (world_of old.objects rest w)) ≡ None
+  pub own : is_kind GroupKind (object_at rest.content old.objects thread.group) ≡ true
+  pub taken : (id : ℕ) → uses_object new.numbers id
+      ≡ (uses_object old.numbers id || (id == new_id (world_of old.objects rest w)))
+  pub pages : new.numbers.pages ≡ old.numbers.pages
+  pub made : new.made ≡ Some (new_id (world_of old.objects rest w))
+  pub caller : Tells done (makes (world_of old.objects rest w) thread object)
+
+abbrev pub KeepsCall : Calls → Calls → ℕ → ThreadRecord → Call → Done → Type 0
+KeepsCall old new me thread call done = Allowed old me thread call → Keeps new me done

@@ -1,0 +1,45 @@
+-- When the running kernel's values are those of a world.
+use Rattle.std.specs.Prelude.{◌≡◌, ℕ, true, None}
+use Rattle.sls_base.specs.declared.fixed.TheConstants.{SCHEDULER}
+use Rattle.sls_base.specs.declared.thread.Thread.{Thread as ThreadRecord}
+use Rattle.plain_state.specs.declared.calls.Call.{Call}
+use Rattle.plain_state.specs.States.{State}
+use Rattle.plain_state.specs.Worlds.{World}
+use Rattle.plain_state.specs.CallRefusals.{refusal_of}
+use Rattle.plain_laws.specs.Places.{IsPlaced}
+use Rattle.plain_laws.specs.Laws.{AreInRange}
+use Rattle.plain_laws.specs.Sound.{HaveForms, NameWhatIs}
+use Rattle.kobj_table.specs.Slots.{is_scheduler}
+use Rattle.kobj_table.specs.Objects.{Rest, slot_at, state_of, HasNoStrays}
+use Rattle.call_readings.specs.declared.devices.Devices.{Devices}
+use Rattle.call_readings.specs.Kernel.{world_of, IsCounted, IsAttached}
+use Rattle.kernel_calls.specs.declared.calls.Calls.{Calls}
+use Rattle.kernel_calls.specs.Callers.{IsCaller}
+
+-- Each thread stands in one place, objects have their numbers and their forms, and what they name is there.
+pub record IsSound (s : State) : Type 0 where
+  pub placed : IsPlaced s
+  pub range : AreInRange s
+  pub forms : HaveForms s
+  pub names : NameWhatIs s
+
+-- Some world is the kernel's: its running state is sound, and its numbers are those in use. The scheduler stands at its
+-- number, and no list but the run queue and those of objects has threads.
+pub record Held (k : Calls) : Type 0 where
+  pub world : World
+  pub rest : Rest
+  pub counted : IsCounted k.numbers (world_of k.objects rest world)
+  pub sound : IsSound (state_of k.objects rest)
+  pub scheduler : is_scheduler (slot_at k.objects SCHEDULER) ≡ true
+  pub strays : HasNoStrays k.objects
+
+-- A thread does a call that isn't refused.
+pub record Allowed (k : Calls) (me : ℕ) (thread : ThreadRecord) (call : Call) : Type 0 where
+  pub held : Held k
+  pub caller : IsCaller k.objects me thread
+  pub unrefused : refusal_of (world_of k.objects held.rest held.world) me thread call ≡ None
+
+-- So it is of a world to which the devices are attached.
+pub record HeldWith (k : Calls) (devices : Devices) : Type 0 where
+  pub held : Held k
+  pub attached : IsAttached k.objects devices (world_of k.objects held.rest held.world)

@@ -1,0 +1,5 @@
+pub mod Callers
+pub mod Kernel
+pub mod Does
+pub mod Ticking
+pub mod Pages

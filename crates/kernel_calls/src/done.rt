@@ -1,0 +1,102 @@
+//! What becomes of the thread that did a call.
+
+ghost use Rattle.std.specs.Prelude.{◌≡◌};
+ghost use Rattle.plain_state.specs.Effects as plain;
+
+use plain_state::{ANSWER, Goes};
+use rv_core::Regs;
+use sls_base::{HALTED, INSTRUCTION_BYTES, Thread, ThreadState};
+
+/// The registers of a thread after its call, what becomes of it, and whether it wishes for a checkpoint.
+#[derive(Clone, Copy)]
+pub struct Done {
+    pub regs: Regs,
+    pub goes: Goes,
+    pub wishes: bool,
+}
+
+impl Done {
+    ghost use Rattle.std.specs.Prelude.{◌≡◌, true};
+    ghost use Rattle.kernel_calls.specs.Does.{Tells};
+    ghost use Rattle.kernel_calls.specs.Callers.{goes_in};
+
+    /// A call is answered.
+    pub(crate) fn answers(thread: &Thread, answer: u32) -> Done
+        ensures { Tells result (plain.answers thread.now answer) }
+    {
+        let mut x = thread.x;
+        x[ANSWER] = answer;
+        Done {
+            regs: Regs {
+                pc: next_pc(thread),
+                x,
+            },
+            goes: Goes::On,
+            wishes: false,
+        }
+    }
+
+    /// A call is answered, and the thread goes to the queue's back.
+    pub(crate) fn yields(thread: &Thread) -> Done
+        ensures { Tells result (record (plain.answers thread.now 0) { goes = Goes.Back }) }
+    {
+        Done {
+            goes: Goes::Back,
+            ..Done::answers(thread, 0)
+        }
+    }
+
+    /// A call is answered, and the thread wishes for a checkpoint.
+    pub(crate) fn wishes(thread: &Thread) -> Done
+        ensures { Tells result (record (plain.answers thread.now 0) { wishes = true }) }
+    {
+        Done {
+            wishes: true,
+            ..Done::answers(thread, 0)
+        }
+    }
+
+    /// A thread stops, with its registers and its pc as they are.
+    pub(crate) fn halts(thread: &Thread) -> Done
+        ensures { Tells result (plain.stops thread.now HALTED) }
+    {
+        Done {
+            regs: Regs {
+                pc: thread.pc,
+                x: thread.x,
+            },
+            goes: Goes::Stop(HALTED),
+            wishes: false,
+        }
+    }
+
+    /// A thread has the registers and the state that a call gave it.
+    pub(crate) fn of_caller(thread: &Thread) -> Done
+        ensures { Tells result (record (plain.goes_on (record { pc = plain.next_pc thread.now; x = thread.now.x })) {
+          goes = goes_in thread.now.state;
+        }) }
+    {
+        let goes = match thread.state {
+            ThreadState::Waiting(_)
+            | ThreadState::Calling(_)
+            | ThreadState::Served(_)
+            | ThreadState::Serving(_) => Goes::Asleep(thread.state),
+            ThreadState::Ready | ThreadState::Running(_) | ThreadState::Stopped(_) => Goes::On,
+        };
+        Done {
+            regs: Regs {
+                pc: next_pc(thread),
+                x: thread.x,
+            },
+            goes,
+            wishes: false,
+        }
+    }
+}
+
+/// The instruction after a thread's own.
+fn next_pc(thread: &Thread) -> u32
+    ensures { result ≡ plain.next_pc thread.now }
+{
+    thread.pc.wrapping_add(INSTRUCTION_BYTES)
+}

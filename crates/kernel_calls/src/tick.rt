@@ -1,0 +1,137 @@
+//! Who runs on a core, and what becomes of it.
+
+ghost use Rattle.std.specs.Prelude.{◌≡◌, ◌≢◌, ◌<◌, false, length, None, IfSome, IfNone, option_map};
+ghost use Rattle.link_lists.specs.Lists.{list_at, IsFree};
+ghost use Rattle.ipc_note.specs.declared.lists.TheConstants.{RUN_QUEUE};
+ghost use Rattle.plain_state.specs.Worlds.{World};
+ghost use Rattle.plain_state.specs.Calls.{call_named};
+ghost use Rattle.plain_state.specs.CallEffects.{ecall};
+ghost use Rattle.call_readings.specs.Kernel.{world_of, IsCounted, IsAttached};
+ghost use Rattle.sls_base.specs.declared.thread.Thread.{Thread as ThreadRecord};
+ghost use Rattle.plain_state.specs.Ticks as plain;
+ghost use Rattle.kobj_table.specs.Slots.{cores_of, occupant_of};
+ghost use Rattle.kobj_table.specs.Objects.{Rest, slot_at, state_of, HasNoStrays};
+ghost use Rattle.kernel_calls.specs.Kernel.{Held, HeldWith};
+ghost use Rattle.kernel_calls.specs.Callers.{IsCaller, moves_bytes};
+ghost use Rattle.kernel_calls.specs.Ticking.{Takes, Settles};
+
+use crate::calls::Calls;
+use crate::done::Done;
+use call_readings::Devices;
+use plain_state::Goes;
+use sls_base::{CORE_SLICE, CORES, CoreNo, OBJECTS, ObjId, SCHEDULER, Thread, ThreadState};
+
+/// What becomes of a thread with so much left of its slice.
+fn at_slice_end(left: u8, goes: Goes) -> Goes
+    ensures { result ≡ plain.at_slice_end left goes }
+{
+    match goes {
+        Goes::On if left == 0 => Goes::Back,
+        goes => goes,
+    }
+}
+
+/// What a thread then does.
+fn state_after(core: CoreNo, goes: Goes) -> ThreadState
+    ensures { result ≡ plain.state_after core goes }
+{
+    match goes {
+        Goes::On => ThreadState::Running(core),
+        Goes::Back => ThreadState::Ready,
+        Goes::Asleep(state) => state,
+        Goes::Stop(cause) => ThreadState::Stopped(cause),
+    }
+}
+
+/// What its core then runs: the thread with what is left of its slice, where it goes on.
+fn on_core(id: ObjId, left: u8, goes: Goes) -> Option<(ObjId, u8)>
+    ensures { option_map occupant_of result ≡ plain.on_core id left goes }
+{
+    match goes {
+        Goes::On => Some((id, left)),
+        Goes::Back | Goes::Asleep(_) | Goes::Stop(_) => None,
+    }
+}
+
+impl Calls {
+    /// Takes the thread that a core runs next, with what is left of its slice: its own, or the front of the run queue
+    /// with a whole slice. It is None exactly where the core has none and the queue is empty.
+    pub(crate) fn take_next(&mut self, core: CoreNo) -> Option<(ObjId, u8)>
+        requires held { Held self.old }
+        requires below { core < CORES }
+        requires core { core < length (cores_of (slot_at self.old.objects SCHEDULER)) }
+        ensures none { IfNone result ((rest : Rest) → plain.chosen (state_of self.old.objects rest) core ≡ None) }
+        ensures idle { IfNone result (self.new.objects ≡ self.old.objects) }
+        ensures some { IfSome result (λ next. Takes self.old.objects self.new.objects core next.0 next.1) }
+        ensures caller { IfSome result (λ next. (thread : ThreadRecord) × IsCaller self.new.objects next.0 thread) }
+        ensures held { Held self.new }
+        ensures numbers { self.new.numbers ≡ self.old.numbers }
+    {
+        kobj_table::lists_alone();
+        if let Some(own) = self.objects.running(core) {
+            return Some(own);
+        }
+        match self.objects.dequeue() {
+            Some(front) => Some((front, CORE_SLICE)),
+            None => None,
+        }
+    }
+
+    /// Lets a thread that a core has taken do its call, and puts it down. It says whether the thread wishes for a
+    /// checkpoint.
+    pub(crate) fn run_call(
+        &mut self,
+        devices: &Devices,
+        core: CoreNo,
+        next: (ObjId, u8),
+        thread: &Thread,
+    ) -> bool
+        requires core { core < CORES }
+        requires held { HeldWith self.old devices.now }
+        requires caller { IsCaller self.old.objects next.0 thread.now }
+        requires no_bytes { moves_bytes (call_named thread.now) ≡ false }
+        ensures state { (w : World) (rest : Rest) → IsCounted self.old.numbers (world_of self.old.objects rest w)
+            → IsAttached self.old.objects devices.now (world_of self.old.objects rest w)
+            → state_of self.new.objects rest ≡ plain.state_of_effect (state_of self.old.objects rest) core
+            (record {
+              occupant = record { thread = next.0; slice = next.1 };
+              queue = list_at self.old.objects.links RUN_QUEUE;
+            }) (ecall (world_of self.old.objects rest w) next.0 thread.now) }
+        ensures wishes { (w : World) (rest : Rest) → IsCounted self.old.numbers (world_of self.old.objects rest w)
+            → IsAttached self.old.objects devices.now (world_of self.old.objects rest w)
+            → result ≡ (ecall (world_of self.old.objects rest w) next.0 thread.now).wishes }
+    {
+        let (id, slice) = next;
+        let done = self.ecall(devices, id, thread);
+        self.settle(core, id, slice.saturating_sub(1), thread, &done);
+        done.wishes
+    }
+
+    /// Puts a thread down after its instruction, with so much left of its slice: on its core, at the queue's back, or
+    /// in neither.
+    pub(crate) fn settle(&mut self, core: CoreNo, id: ObjId, left: u8, thread: &Thread, done: &Done)
+        requires id { id < OBJECTS }
+        requires no_scheduler { id ≢ SCHEDULER }
+        requires core { core < CORES }
+        requires free { plain.at_slice_end left done.now.goes ≡ Goes.Back → IsFree self.old.objects.links id }
+        ensures settles { Settles self.old.objects self.new.objects core id left thread.now done.now }
+        ensures numbers { self.new.numbers ≡ self.old.numbers }
+        ensures made { self.new.made ≡ self.old.made }
+    {
+        let goes = at_slice_end(left, done.goes);
+        self.objects.set_thread(
+            id,
+            Thread {
+                group: thread.group,
+                space: thread.space,
+                state: state_after(core, goes),
+                pc: done.regs.pc,
+                x: done.regs.x,
+            },
+        );
+        self.objects.run(core, on_core(id, left, goes));
+        if let Goes::Back = goes {
+            self.objects.enqueue(id);
+        }
+    }
+}
