@@ -15,3 +15,6 @@ mod tick;
 
 pub use calls::Calls;
 pub use done::Done;
+
+#[cfg(test)]
+mod tests;
