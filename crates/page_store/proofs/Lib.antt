@@ -1,0 +1,6 @@
+pub mod Places
+pub mod PageLaws
+pub mod Moves
+pub mod Steps
+pub mod BackLaws
+pub mod BackSteps

@@ -1,0 +1,6 @@
+pub mod Slots
+pub mod Format
+pub mod Stages
+pub mod Known
+pub mod Shows
+pub mod Back
