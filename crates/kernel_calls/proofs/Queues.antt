@@ -99,6 +99,6 @@ strays_moved o links id has lists none i not_queue no_list = lists i (λ same. l
 -- a thread that is lent and given back leaves the lists, and those of no object empty
 pub given_back : (o m : Objects) (lent : Option ℕ) (thread : ThreadRecord) → HasNoStrays o → ((id : ℕ) → lent ≡ Some id → has_list (slot_at o id) ≡ false) →
     IfSome lent (λ id. Puts o m id (Slot.Thread thread)) → IfNone lent (m ≡ o) → IfSome lent (λ id. HasNoStrays o → HasNoStraysAt o (Slot.Thread thread) id → HasNoStrays m) →
-    HasNoStrays m × (m.links ≡ o.links)
-given_back o m None thread none listless puts same kept = (subst (λ (x : Objects). HasNoStrays x) (sym same) none, ap (λ (x : Objects). x.links) same)
-given_back o m (Some id) thread none listless puts same kept = (kept none (λ not_queue no_list. none id not_queue (listless id refl)), puts.links)
+    HasNoStrays m × (m.links ≡ o.links) × ((i : ℕ) → (lent ≡ Some i → ⊥) → slot_at m i ≡ slot_at o i)
+given_back o m None thread none listless puts same kept = (subst (λ (x : Objects). HasNoStrays x) (sym same) none, ap (λ (x : Objects). x.links) same, λ i other. ap (λ (x : Objects). slot_at x i) same)
+given_back o m (Some id) thread none listless puts same kept = (kept none (λ not_queue no_list. none id not_queue (listless id refl)), puts.links, λ i other. puts.others i (λ same. other (ap (λ (n : ℕ). Some n) (sym same))))

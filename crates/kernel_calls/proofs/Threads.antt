@@ -1,5 +1,5 @@
 -- Threads that stand in a table, and what becomes of a caller.
-use Rattle.std.specs.Prelude.{◌≡◌, ℕ, Bool, true, false, ◌==◌, List, [], Option, Some, None}
+use Rattle.std.specs.Prelude.{◌≡◌, ◌≢◌, ℕ, Bool, true, false, ◌==◌, List, [], Option, Some, None}
 use Rattle.std.proofs.Common.{refl, ap, sym, ◌∙◌}
 use Rattle.sls_base.specs.declared.limits.TheConstants.{OUTPUT_CHANNELS}
 use Rattle.sls_base.specs.declared.thread.Thread.{Thread as ThreadRecord}
@@ -16,6 +16,9 @@ use Rattle.plain_state.specs.Ticks.{at_slice_end}
 use Rattle.plain_laws.specs.Places.{state_of as does}
 use Rattle.kobj_table.specs.declared.slot.Slot.{Slot}
 use Rattle.kobj_table.specs.Slots.{object_of, ring_of}
+use Rattle.std.proofs.lemmas.Bool.{false≢true}
+use Rattle.kobj_table.specs.declared.objects.Objects.{Objects}
+use Rattle.kobj_table.specs.Objects.{slot_at}
 use Rattle.kernel_calls.specs.Callers.{goes_in}
 use Rattle.kernel_calls.specs.declared.done.Done.{Done}
 use Rattle.kernel_calls.specs.Does.{Tells}
@@ -80,3 +83,11 @@ pub not_back : {done : Done} → (thread caller : ThreadRecord) (state : ThreadS
 not_back {done} thread caller state left tells same asleep back =
     let goes : done.goes ≡ Asleep state = tells.goes ∙ rw same asleep in
     let f : Asleep state ≡ Back = ap (λ (g : Goes). at_slice_end left g) (sym goes) ∙ back in cc
+
+abbrev has_thread : Slot → Bool
+has_thread (Slot.Thread thread) = true
+has_thread slot = false
+
+-- where a thread stands nothing else does
+pub apart : (o : Objects) (a b : ℕ) → has_thread (slot_at o a) ≡ true → has_thread (slot_at o b) ≡ false → a ≢ b
+apart o a b thread other same = false≢true (sym (rw same other) ∙ thread)

@@ -32,8 +32,8 @@ pub record IsQuiet (e : Effect) : Type 0 where
   pub output : e.output ≡ None
   pub takes : e.takes ≡ false
 
--- The objects have changed, the threads that it makes Ready stand at the queue's back, and what becomes of the caller is
--- told; nothing else is another. The numbers in use are the world's again. The effect does nothing else.
+-- The objects have changed, the threads that it makes Ready stand at the queue's back, and what becomes of the caller
+-- is told; nothing else is another. The numbers in use are the world's again. The effect does nothing else.
 pub record Does (old new : Calls) (rest : Rest) (w : World) (e : Effect) (done : Done) : Type 0 where
   pub objects : (i : ℕ) → object_at rest.content new.objects i
       ≡ with_changes (object_at rest.content old.objects) e.changes i
@@ -43,22 +43,25 @@ pub record Does (old new : Calls) (rest : Rest) (w : World) (e : Effect) (done :
   pub caller : Tells done e
   pub quiet : IsQuiet e
 
--- Where the thread may do the call, that is what the call's effect says, for each world whose numbers are those in use and
--- in which the call isn't refused.
+-- Where the thread may do the call, that is what the call's effect says, for each world whose numbers are those in use
+-- and in which the call isn't refused.
 abbrev pub DoesCall : Calls → Calls → ℕ → ThreadRecord → Call → Done → Type 0
 DoesCall old new me thread call done =
     (w : World) (rest : Rest) → IsCounted old.numbers (world_of old.objects rest w)
     → refusal_of (world_of old.objects rest w) me thread call ≡ None → Allowed old me thread call
     → Does old new rest w (effect_of_call (world_of old.objects rest w) me thread call) done
 
--- No list but the run queue and those of objects has threads, and a caller that goes to the queue's back is in none.
-pub record Keeps (new : Calls) (me : ℕ) (done : Done) : Type 0 where
+-- No list but the run queue and those of objects has threads. The caller stands at its number as it was, and is in no
+-- list where it goes to the queue's back.
+pub record Keeps (old new : Calls) (me : ℕ) (done : Done) : Type 0 where
+  pub caller : slot_at new.objects me ≡ slot_at old.objects me
   pub strays : HasNoStrays new.objects
   pub free : (left : ℕ) → at_slice_end left done.goes ≡ Back → IsFree new.objects.links me
 
--- An object came to stand at the least number that is free, and the caller's own group has a capability to it. Its number
--- is in use, and no other came to be; of its pages nothing is said.
-pub record Makes (old new : Calls) (rest : Rest) (w : World) (thread : ThreadRecord) (object : Object) (done : Done) : Type 0 where
+-- An object came to stand at the least number that is free, and the caller's own group has a capability to it. Its
+-- number is in use, and no other came to be; of its pages nothing is said.
+pub record Makes (old new : Calls) (rest : Rest) (w : World) (thread : ThreadRecord) (object : Object) (done : Done)
+    : Type 0 where
   pub objects : (i : ℕ) → object_at rest.content new.objects i
       ≡ with_changes (object_at rest.content old.objects) (makes (world_of old.objects rest w) thread object).changes i
   pub links : new.objects.links ≡ old.objects.links
@@ -72,4 +75,4 @@ pub record Makes (old new : Calls) (rest : Rest) (w : World) (thread : ThreadRec
   pub caller : Tells done (makes (world_of old.objects rest w) thread object)
 
 abbrev pub KeepsCall : Calls → Calls → ℕ → ThreadRecord → Call → Done → Type 0
-KeepsCall old new me thread call done = Allowed old me thread call → Keeps new me done
+KeepsCall old new me thread call done = Allowed old me thread call → Keeps old new me done

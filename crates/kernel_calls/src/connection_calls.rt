@@ -16,7 +16,7 @@ impl Calls {
     pub(crate) fn call(&mut self, me: ObjId, thread: &Thread) -> Done
         requires { Allowed self.old me thread.now Call.ConnCall }
         ensures does { DoesCall self.old self.new me thread.now Call.ConnCall result }
-        ensures keeps { Keeps self.new me result }
+        ensures keeps { Keeps self.old self.new me result }
     {
         plain_laws::calls::unrefused_call_meets_all();
         kobj_table::lists_alone();
@@ -47,7 +47,7 @@ impl Calls {
     pub(crate) fn serve(&mut self, me: ObjId, thread: &Thread) -> Done
         requires { Allowed self.old me thread.now Call.Serve }
         ensures does { DoesCall self.old self.new me thread.now Call.Serve result }
-        ensures keeps { Keeps self.new me result }
+        ensures keeps { Keeps self.old self.new me result }
     {
         plain_laws::calls::unrefused_call_meets_all();
         kobj_table::lists_alone();

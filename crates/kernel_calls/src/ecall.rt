@@ -22,7 +22,7 @@ impl Calls {
         requires allowed { Allowed self.old me thread.now call }
         requires no_bytes { moves_bytes (Some call) ≡ false }
         ensures does { DoesCall self.old self.new me thread.now call result }
-        ensures keeps { Keeps self.new me result }
+        ensures keeps { Keeps self.old self.new me result }
     {
         plain_laws::calls::unrefused_call_meets_all();
         match call {
@@ -56,7 +56,7 @@ impl Calls {
         ensures does { (w : World) (rest : Rest) → IsCounted self.old.numbers (world_of self.old.objects rest w)
             → IsAttached self.old.objects devices.now (world_of self.old.objects rest w)
             → Does self.old self.new rest w (plain.ecall (world_of self.old.objects rest w) me thread.now) result }
-        ensures keeps { Keeps self.new me result }
+        ensures keeps { Keeps self.old self.new me result }
     {
         let Some(call) = Call::named(thread) else {
             return Done::answers(thread, Refusal::BadCall.number());

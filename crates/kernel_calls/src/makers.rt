@@ -34,8 +34,9 @@ impl Calls {
             → no_room (world_of self.old.objects rest w) thread.now Refusal.NoObjects ≡ false
             → object_of rest.content slot [] ≡ Some object → Held self.old
             → Makes self.old self.new rest w thread.now object result }
-        ensures keeps { Held self.old → IsCaller self.old.objects me thread.now → Keeps self.new me result }
-        ensures fresh { Held self.old → IsCaller self.old.objects me thread.now → IfSome self.new.made (λ id. (id < OBJECTS) × (id ≢ me) × IsFree self.new.objects.links id) }
+        ensures keeps { Held self.old → IsCaller self.old.objects me thread.now → Keeps self.old self.new me result }
+        ensures fresh { Held self.old → IsCaller self.old.objects me thread.now
+            → IfSome self.new.made (λ id. (id < OBJECTS) × (id ≢ me) × IsFree self.new.objects.links id) }
     {
         self.made = None;
         let (Some(id), Some(mut group)) = (
@@ -105,7 +106,7 @@ impl Calls {
     pub(crate) fn thread_new(&mut self, me: ObjId, thread: &Thread) -> Done
         requires { Allowed self.old me thread.now Call.ThreadNew }
         ensures does { DoesCall self.old self.new me thread.now Call.ThreadNew result }
-        ensures keeps { Keeps self.new me result }
+        ensures keeps { Keeps self.old self.new me result }
     {
         plain_laws::calls::unrefused_call_meets_all();
         kobj_table::lists_alone();

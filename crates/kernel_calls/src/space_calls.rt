@@ -16,7 +16,7 @@ impl Calls {
     pub(crate) fn map(&mut self, me: ObjId, thread: &Thread) -> Done
         requires { Allowed self.old me thread.now Call.Map }
         ensures does { DoesCall self.old self.new me thread.now Call.Map result }
-        ensures keeps { Keeps self.new me result }
+        ensures keeps { Keeps self.old self.new me result }
     {
         plain_laws::calls::unrefused_call_meets_all();
         mem_space::region_tests();
@@ -39,7 +39,7 @@ impl Calls {
     pub(crate) fn unmap(&mut self, me: ObjId, thread: &Thread) -> Done
         requires { Allowed self.old me thread.now Call.Unmap }
         ensures does { DoesCall self.old self.new me thread.now Call.Unmap result }
-        ensures keeps { Keeps self.new me result }
+        ensures keeps { Keeps self.old self.new me result }
     {
         plain_laws::calls::unrefused_call_meets_all();
         let id = id_named(&self.objects, thread, 0);

@@ -107,6 +107,48 @@ fn answer(calls: &mut Calls, me: ObjId, call: Call, arguments: [u32; 3]) -> Opti
     }
 }
 
+/// Puts a thread down on core 0, where it stands in no list.
+fn put_down(calls: &mut Calls, me: ObjId, left: u8, thread: &Thread, done: &Done) {
+    if (me as usize) < OBJECTS && me != SCHEDULER && !calls.objects.links.is_linked(me as usize) {
+        calls.settle(0, me, left, thread, done);
+    }
+}
+
+/// A thread waits on a new notification, and the caller signals it with so much left of its slice.
+fn signal_with(calls: &mut Calls, left: u8) {
+    answer(calls, CALLER, Call::NoteNew, [0; 3]);
+    calls.objects.set_thread(20, caller([10, 0, 0]));
+    answer(calls, 20, Call::Wait, [10, 0, 0]);
+    let thread = caller([10, 0, 0]);
+    if let Some(done) = carry_out(calls, CALLER, &thread, Call::Signal) {
+        put_down(calls, CALLER, left, &thread, &done);
+    }
+}
+
+#[test]
+fn who_is_woken_stands_before_its_waker_whose_slice_has_ended(rt: HostRuntime) {
+    let mut calls = kernel();
+    signal_with(&mut calls, 0);
+    assert_eq!(rt; calls.objects.first(RUN_QUEUE as ObjId), Some(20));
+    assert_eq!(rt; calls.objects.next(20), Some(CALLER));
+    assert_eq!(rt; calls.objects.running(0), None);
+    let waker = calls.objects.thread_or_zeros(CALLER);
+    assert_eq!(rt; waker.state, ThreadState::Ready);
+    assert_eq!(rt; (waker.pc, waker.x[ANSWER]), (68, 0));
+}
+
+#[test]
+fn a_waker_with_something_left_of_its_slice_keeps_its_core(rt: HostRuntime) {
+    let mut calls = kernel();
+    signal_with(&mut calls, 3);
+    assert_eq!(rt; calls.objects.next(20), None);
+    assert_eq!(rt; calls.objects.running(0), Some((CALLER, 3)));
+    assert_eq!(rt;
+        calls.objects.thread_or_zeros(CALLER).state,
+        ThreadState::Running(0)
+    );
+}
+
 #[test]
 fn memory_objects_take_all_pages_and_keep_them_once_dropped(rt: HostRuntime) {
     let mut calls = kernel();

@@ -9,7 +9,7 @@ ghost use Rattle.plain_state.specs.CallEffects.{ecall};
 ghost use Rattle.call_readings.specs.Kernel.{world_of, IsCounted, IsAttached};
 ghost use Rattle.sls_base.specs.declared.thread.Thread.{Thread as ThreadRecord};
 ghost use Rattle.plain_state.specs.Ticks as plain;
-ghost use Rattle.kobj_table.specs.Slots.{cores_of, occupant_of};
+ghost use Rattle.kobj_table.specs.Slots.{cores_of, has_list, occupant_of};
 ghost use Rattle.kobj_table.specs.Objects.{Rest, slot_at, state_of, HasNoStrays};
 ghost use Rattle.kernel_calls.specs.Kernel.{Held, HeldWith};
 ghost use Rattle.kernel_calls.specs.Callers.{IsCaller, moves_bytes};
@@ -100,6 +100,7 @@ impl Calls {
         ensures wishes { (w : World) (rest : Rest) → IsCounted self.old.numbers (world_of self.old.objects rest w)
             → IsAttached self.old.objects devices.now (world_of self.old.objects rest w)
             → result ≡ (ecall (world_of self.old.objects rest w) next.0 thread.now).wishes }
+        ensures strays { HasNoStrays self.new.objects }
     {
         let (id, slice) = next;
         let done = self.ecall(devices, id, thread);
@@ -117,6 +118,8 @@ impl Calls {
         ensures settles { Settles self.old.objects self.new.objects core id left thread.now done.now }
         ensures numbers { self.new.numbers ≡ self.old.numbers }
         ensures made { self.new.made ≡ self.old.made }
+        ensures strays { HasNoStrays self.old.objects → has_list (slot_at self.old.objects id) ≡ false
+            → HasNoStrays self.new.objects }
     {
         let goes = at_slice_end(left, done.goes);
         self.objects.set_thread(

@@ -22,7 +22,7 @@ use Rattle.kernel_calls.proofs.Objects.{put_gives, both_given, same_given}
 use Rattle.kernel_calls.proofs.Frames.{changed, no_more, not_scheduler}
 use Rattle.kernel_calls.proofs.Places.{free_unlisted, asleep_unlisted}
 use Rattle.kernel_calls.proofs.Queues.{relisted, strays_moved}
-use Rattle.kernel_calls.proofs.Threads.{caller_waits, not_back}
+use Rattle.kernel_calls.proofs.Threads.{apart, caller_waits, not_back}
 use Rattle.kernel_calls.proofs.Connections.{serving_is, not_serving, not_server, call_wakes, call_joins}
 use Rattle.kernel_calls.proofs.calls.Calls.call.Goals as goal
 
@@ -90,8 +90,8 @@ returns-clause-does c w rest h e a =
           let kept = c.call.ensures.busy other not in
           let given = relisted c.lists_alone.ensures.object o c.put.new.self c.call.new.links rest.content id (Slot.Connection c.call.new.conn) (Connection server client (clients ++ c.args.me ∷ [])) puts
           (rw (joined.last, kept.0) refl) (λ i apart not_queue. joined.others i apart) c.requires.held.scheduler in
-          let apart : server ≢ id = λ same. (let t : slot_at o id ≡ Slot.Thread c.in-Some-thread.server = rw (sym same) server_is in let f = slot_is in cc) in
-          let there : slot_at c.put.new.self server ≡ Slot.Thread c.in-Some-thread.server = puts.others server apart ∙ server_is in
+          let server_apart : server ≢ id = λ same. (let t : slot_at o id ≡ Slot.Thread c.in-Some-thread.server = rw (sym same) server_is in let f = slot_is in cc) in
+          let there : slot_at c.put.new.self server ≡ Slot.Thread c.in-Some-thread.server = puts.others server server_apart ∙ server_is in
           let same = put_gives rest.content c.put.new.self c.set_thread.new.self server (Slot.Thread c.call.new.server) (Thread c.in-Some-thread.server) puts' (rw kept.1 refl) in
           changed _ (call_joins (state_of o rest) thread c.args.me id server client clients id_is (rw slot_is refl) (rw server_is busy))
           (record {
@@ -117,14 +117,15 @@ returns-clause-keeps c =
     let has : has_list (slot_at o id) ≡ true = rw slot_is refl in
     let free : is_server c.args.me (object_at held.rest.content o id) ≡ false = rw (c.id_named-id.ensures held.rest) (c.unrefused_call_meets_all.ensures.besides (world_of o held.rest held.world) c.args.me thread ConnCall Taken (λ same. cc) c.requires.unrefused) in
     let other : server ≢ c.args.me = not_server c.args.me server c.in-Some.connection.client (list_at o.links id) (rw slot_is at free) in
-    let apart : server ≢ id = λ same. (let t : slot_at o id ≡ Slot.Thread c.in-Some-thread.server = rw (sym same) server_is in let f = slot_is in cc) in
-    let there : slot_at c.put.new.self server ≡ Slot.Thread c.in-Some-thread.server = puts.others server apart ∙ server_is in
+    let server_apart : server ≢ id = λ same. (let t : slot_at o id ≡ Slot.Thread c.in-Some-thread.server = rw (sym same) server_is in let f = slot_is in cc) in
+    let there : slot_at c.put.new.self server ≡ Slot.Thread c.in-Some-thread.server = puts.others server server_apart ∙ server_is in
     elim (cases_Bool (is_serving c.in-Some-thread.server.state id)) [
       | inl serving ↦
           (let is = serving_is c.in-Some-thread.server.state id serving in
           let queued = c.call.ensures.queued other is in
           let strays = c.put.ensures.strays (strays_moved o c.call.new.links id has (λ i not_id not_queue. queued.others i not_queue) held.strays) (λ not_queue no_list. absurd (false≢true (sym no_list))) in
           record {
+            caller = c.set_thread.ensures.puts.others c.args.me (λ same. other (sym same)) ∙ puts.others c.args.me (apart o c.args.me id (rw c.requires.caller.there refl) (rw slot_is refl));
             strays = c.set_thread.ensures.strays strays (λ not_queue no_list. strays server not_queue (rw there refl));
             free = λ left back. absurd (not_back thread _ (Served id) left c.of_caller.ensures (c.call.ensures.served other is) refl back);
           })
@@ -133,6 +134,7 @@ returns-clause-keeps c =
           let joined = c.call.ensures.joined other not in
           let strays = c.put.ensures.strays (strays_moved o c.call.new.links id has (λ i not_id not_queue. joined.others i not_id) held.strays) (λ not_queue no_list. absurd (false≢true (sym no_list))) in
           record {
+            caller = c.set_thread.ensures.puts.others c.args.me (λ same. other (sym same)) ∙ puts.others c.args.me (apart o c.args.me id (rw c.requires.caller.there refl) (rw slot_is refl));
             strays = c.set_thread.ensures.strays strays (λ not_queue no_list. strays server not_queue (rw there refl));
             free = λ left back. absurd (not_back thread _ (Calling id) left c.of_caller.ensures (c.call.ensures.waits other not) refl back);
           })

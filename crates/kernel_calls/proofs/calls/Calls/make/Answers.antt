@@ -18,6 +18,7 @@ use Rattle.kernel_calls.proofs.Frames.{not_scheduler, answered}
 use Rattle.kernel_calls.proofs.Caps.{caps_of, not_full, lowest, with_cap_is}
 use Rattle.kernel_calls.proofs.Places.{free_unlisted, none_listed}
 use Rattle.kernel_calls.proofs.Made.{none_there, not_there, no_group, none_first, first_is}
+use Rattle.kernel_calls.proofs.Threads.{apart}
 use Rattle.kernel_calls.proofs.calls.Calls.make.Goals.{in_default-via-in-Some+in_default, in_default-via-in_default}
 use Rattle.kernel_calls.proofs.calls.Calls.make.Goals as goal
 
@@ -63,10 +64,10 @@ returns-clause-makes c w rest object h slot number is held =
     let own = c.args.thread.now.group in
     let group = c.in-Some-Some.group in
     let slot_is = c.in-Some-Some.ensures'.some in
-    let apart = elsewhere c held in
+    let places = elsewhere c held in
     let empty = (unused c held).1 in
     let first : new_id (world_of o rest w) ≡ id = first_is (free_objects (world_of o rest w)) id (c.in-Some-Some.ensures.least (world_of o rest w) h) in
-    let none : list_at o.links id ≡ [] = held.strays id (λ same. apart.0 (sym same)) (rw empty refl) in
+    let none : list_at o.links id ≡ [] = held.strays id (λ same. places.0 (sym same)) (rw empty refl) in
     let cap : Cap = record { object = id; rights = ALL_RIGHTS } in
     let puts = c.put.ensures.puts in
     let puts' = c.put-2.ensures.puts in
@@ -78,7 +79,7 @@ returns-clause-makes c w rest object h slot number is held =
     record {
       objects = rw first (rw slot_is gives);
       links = puts'.links ∙ puts.links;
-      scheduler = puts'.others SCHEDULER (not_scheduler o own held.scheduler (rw slot_is refl)) ∙ puts.others SCHEDULER apart.0;
+      scheduler = puts'.others SCHEDULER (not_scheduler o own held.scheduler (rw slot_is refl)) ∙ puts.others SCHEDULER places.0;
       unused = rw first (rw empty refl);
       own = rw slot_is refl;
       taken = rw first c.take_object.ensures.objects;
@@ -90,11 +91,13 @@ returns-clause-makes c w rest object h slot number is held =
 pub returns-clause-keeps : goal.returns-clause-keeps
 returns-clause-keeps c held caller =
     let o = c.args.self.now.objects in
-    let apart = elsewhere c held in
+    let places = elsewhere c held in
     let empty = (unused c held).1 in
     let strays = c.put.ensures.strays held.strays (λ other no_list. held.strays c.in-Some-Some.id other (rw empty refl)) in
-    let group_is : slot_at c.put.new.self c.args.thread.now.group ≡ Slot.Group c.in-Some-Some.group = c.put.ensures.puts.others c.args.thread.now.group (λ same. apart.1 (sym same)) ∙ c.in-Some-Some.ensures'.some in
+    let group_is : slot_at c.put.new.self c.args.thread.now.group ≡ Slot.Group c.in-Some-Some.group = c.put.ensures.puts.others c.args.thread.now.group (λ same. places.1 (sym same)) ∙ c.in-Some-Some.ensures'.some in
     record {
+      caller = c.put-2.ensures.puts.others c.args.me (apart o c.args.me c.args.thread.now.group (rw caller.there refl) (rw c.in-Some-Some.ensures'.some refl))
+          ∙ c.put.ensures.puts.others c.args.me (apart o c.args.me c.in-Some-Some.id (rw caller.there refl) (rw empty refl));
       strays = c.put-2.ensures.strays strays (λ other no_list. strays c.args.thread.now.group other (rw group_is refl));
       free = λ left back. rw (c.put-2.ensures.puts.links ∙ c.put.ensures.puts.links) caller.free;
     }

@@ -27,7 +27,7 @@ use Rattle.kernel_calls.proofs.Objects.{put_gives, both_given, same_given}
 use Rattle.kernel_calls.proofs.Frames.{changed, not_scheduler}
 use Rattle.kernel_calls.proofs.Places.{listed, free_unlisted, asleep_unlisted, cases_list, at_first}
 use Rattle.kernel_calls.proofs.Queues.{relisted, strays_moved, with_links, given_back}
-use Rattle.kernel_calls.proofs.Threads.{is_thread_slot, caller_waits, caller_handed, not_back}
+use Rattle.kernel_calls.proofs.Threads.{apart, is_thread_slot, caller_waits, caller_handed, not_back}
 use Rattle.kernel_calls.proofs.Connections.{serve_is, is_its_server, cases_option, beside_is, is_served, in_range, put_served}
 use Rattle.kernel_calls.proofs.calls.Calls.serve.Goals as goal
 
@@ -209,11 +209,16 @@ returns-clause-keeps c =
     let lent = given_back (with_links o links) c.give_back.new.objects served c.serve.new.client moved client_slot c.give_back.ensures.some c.give_back.ensures.none c.give_back.ensures.strays in
     let strays = c.put.ensures.strays lent.0 (λ not_queue no_list. absurd (false≢true (sym no_list))) in
     let put_links = puts.links ∙ lent.1 in
+    let not_client : served ≡ Some me → ⊥ =
+    λ is. (let slot = is_thread_slot held.rest.content (slot_at o me) (list_at o.links me) (Served id) (is_served o held.rest id me c.in-Some.connection held.sound.placed slot_is is) in
+    not_served thread id c.requires.caller.awake (slot_state o me me id thread slot.0 refl c.requires.caller.there slot.1 ∙ slot.2)) in
+    let stays : slot_at c.put.new.self me ≡ slot_at o me = puts.others me (apart o me id (rw c.requires.caller.there refl) (rw slot_is refl)) ∙ lent.2 me not_client in
     elim (cases_list clients) [
       | inl empty ↦
           (let none' : c.first-first.result ≡ None = c.first-first.ensures.first ∙ ap (λ (l : List ℕ). slice_get l 0) empty in
           let n_is : c.give_back-2.new.objects ≡ c.put.new.self = rw none' at c.give_back-2.ensures.none in
           record {
+            caller = rw n_is stays;
             strays = rw n_is strays;
             free = λ left back. absurd (not_back thread _ (Serving id) left c.of_caller.ensures (c.serve.ensures.serving is_me empty) refl back);
           })
@@ -225,7 +230,7 @@ returns-clause-keeps c =
           let slot = is_thread_slot held.rest.content (slot_at o next) (list_at o.links next) l.0 l.1 in
           let back = rw first_is at c.give_back-2.ensures.some in
           let none_at : next ≢ RUN_QUEUE → list_at c.put.new.self.links next ≡ [] = λ not_queue. rw put_links (moved next not_queue (rw slot.1 refl)) in
-          let apart : Contains (client_beside served me) me → ⊥ =
+          let not_beside : Contains (client_beside served me) me → ⊥ =
           λ has. elim (cases_option served) [
             | inl none ↦ absurd (omega (arith, (rw none at has).1))
             | inr some ↦
@@ -233,8 +238,9 @@ returns-clause-keeps c =
                 let other : some.0 ≢ me = λ same. not_served thread id c.requires.caller.awake (slot_state o me some.0 id thread slot.0 (sym same) c.requires.caller.there slot.1 ∙ slot.2) in
                 other (at_first some.0 me (rw (beside_is served some.0 me some.1 other) at has)))
           ] in
-          let free = c.serve.ensures.free me c.requires.caller.free apart in
+          let free = c.serve.ensures.free me c.requires.caller.free not_beside in
           record {
+            caller = back.others me (λ same. c.requires.caller.free id (rw (is, same) (0, omega arith, refl))) ∙ stays;
             strays = (rw first_is at c.give_back-2.ensures.strays) strays (λ not_queue no_list. none_at not_queue);
             free = λ left at_back. rw (back.links, put_links) free;
           })

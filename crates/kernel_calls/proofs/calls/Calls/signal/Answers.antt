@@ -19,7 +19,7 @@ use Rattle.kernel_calls.proofs.Objects.{put_gives, both_given}
 use Rattle.kernel_calls.proofs.Frames.{changed, one_put, not_scheduler}
 use Rattle.kernel_calls.proofs.Places.{listed, cases_list}
 use Rattle.kernel_calls.proofs.Queues.{relisted, strays_moved}
-use Rattle.kernel_calls.proofs.Threads.{is_thread_slot, caller_answered}
+use Rattle.kernel_calls.proofs.Threads.{apart, is_thread_slot, caller_answered}
 use Rattle.kernel_calls.proofs.Notes.{signal_wakes, signal_counts, rises, not_greatest}
 use Rattle.kernel_calls.proofs.calls.Calls.signal.Goals as goal
 
@@ -93,7 +93,7 @@ returns-clause-keeps c a =
           (let none : c.first-first.result ≡ None = c.first-first.ensures.first ∙ ap (λ (l : List ℕ). slice_get l 0) empty in
           let back = rw none at c.give_back.ensures.none in
           let moved = strays_moved o c.signal.new.links id has (λ i other not_queue. ap (λ (l : List (List ℕ)). list_at l i) (c.signal.ensures.nobody empty)) a.held.strays in
-          record { strays = rw back (c.put.ensures.strays moved (λ other no_list. absurd (false≢true (sym no_list)))); free = λ left at_back. rw (back, puts.links) free })
+          record { caller = rw back (puts.others c.args.me (apart o c.args.me id (rw a.caller.there refl) (rw slot_is refl))); strays = rw back (c.put.ensures.strays moved (λ other no_list. absurd (false≢true (sym no_list)))); free = λ left at_back. rw (back, puts.links) free })
       | inr waiting ↦
           (let first = waiting.0 in
           let is = waiting.2 in
@@ -103,9 +103,10 @@ returns-clause-keeps c a =
           let slot = is_thread_slot a.held.rest.content (slot_at o first) (list_at o.links first) l.0 l.1 in
           let back = rw first_is at c.give_back.ensures.some in
           let strays = c.put.ensures.strays (strays_moved o c.signal.new.links id has moved.others a.held.strays) (λ other no_list. absurd (false≢true (sym no_list))) in
-          let apart : first ≢ id = λ same. (let f : slot_at o first ≡ Slot.Notification c.in-Some.note = rw same slot_is in let t = slot.1 in cc) in
-          let thread_is : slot_at c.put.new.self first ≡ Slot.Thread slot.0 = puts.others first apart ∙ slot.1 in
+          let waiter_apart : first ≢ id = λ same. (let f : slot_at o first ≡ Slot.Notification c.in-Some.note = rw same slot_is in let t = slot.1 in cc) in
+          let thread_is : slot_at c.put.new.self first ≡ Slot.Thread slot.0 = puts.others first waiter_apart ∙ slot.1 in
           record {
+            caller = back.others c.args.me (λ same. a.caller.free id (rw (is, same) (0, omega arith, refl))) ∙ puts.others c.args.me (apart o c.args.me id (rw a.caller.there refl) (rw slot_is refl));
             strays = (rw first_is at c.give_back.ensures.strays) strays (λ other no_list. strays first other (rw thread_is refl));
             free = λ left at_back. rw (back.links, puts.links) free;
           })

@@ -34,6 +34,7 @@ pub returns-in-Some-clause-keeps : goal.returns-in-Some-clause-keeps
 returns-in-Some-clause-keeps c =
     let fresh = rw c.in-Some.is at (c.make-done.ensures.fresh c.requires.held c.requires.caller) in
     record {
+      caller = rw c.enqueue.ensures.slots (c.make-done.ensures.keeps c.requires.held c.requires.caller).caller;
       strays = c.enqueue.ensures.strays (c.make-done.ensures.keeps c.requires.held c.requires.caller).strays;
       free = λ left back. still_free _ _ _ c.in-Some.id c.args.me c.enqueue.ensures.last ((c.make-done.ensures.keeps c.requires.held c.requires.caller).free left back) (λ same. fresh.1 (sym same));
     }
@@ -49,3 +50,6 @@ returns-in_default-clause-does c w rest h e a =
 
 pub enqueue-requires-clause-free : goal.enqueue-requires-clause-free
 enqueue-requires-clause-free c = (rw c.in-Some.is at (c.make-done.ensures.fresh c.requires.held c.requires.caller)).2
+
+pub returns-in_default-clause-keeps : goal.returns-in_default-clause-keeps
+returns-in_default-clause-keeps c = c.make-done.ensures.keeps c.requires.held c.requires.caller
