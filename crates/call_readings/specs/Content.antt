@@ -34,5 +34,6 @@ number_in byte offset count = number_of_bytes (map byte (range_with_len offset c
 -- what a thread sees from an address on, with a right: the number in so many bytes, if each is there
 abbrev pub number_seen : (ℕ → Option Object) → List Region → ℕ → ℕ → ℕ → Option ℕ
 number_seen objects regions right at size =
-    if is_covered regions right at size then Some (number_of_bytes (map (byte_at objects) (places_of regions right at size)))
+    if is_covered regions right at size
+    then Some (number_of_bytes (map (byte_at objects) (places_of regions right at size)))
     else None

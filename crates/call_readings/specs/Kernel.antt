@@ -36,7 +36,8 @@ pub record IsAttached (o : Objects) (devices : Devices) (w : World) : Type 0 whe
   pub input : devices.first_input ≡ option_map length (slice_get w.now.inputs 0)
 
 -- What a tick finds is a world's: beside that, the pages' bytes, and threads each at the address of an instruction.
-pub record IsOfWorld (o : Objects) (numbers : NumbersInUse) (devices : Devices) (m : Memory) (rest : Rest) (w : World) : Type 0 where
+pub record IsOfWorld (o : Objects) (numbers : NumbersInUse) (devices : Devices) (m : Memory) (rest : Rest) (w : World)
+    : Type 0 where
   pub counted : IsCounted numbers (world_of o rest w)
   pub attached : IsAttached o devices (world_of o rest w)
   pub content : Reads rest.content m
