@@ -42,7 +42,7 @@ use Rattle.kobj_table.specs.Objects.{object_at}
 use Rattle.kernel_calls.specs.declared.calls.Calls.{Calls}
 use Rattle.kernel_calls.specs.Does.{Does, Tells}
 use Rattle.kernel_calls.specs.Ticking.{Settles}
-use Rattle.kernel_calls.specs.Kernel.{IsSound}
+use Rattle.kernel_calls.specs.Kernel.{Held, IsSound}
 use Rattle.kernel_calls.proofs.Places.{counts}
 
 -- a queue without its front has nobody more
@@ -75,6 +75,17 @@ sound_left s sound = record {
   range = sound.range;
   forms = sound.forms;
   names = sound.names;
+}
+
+-- what was made by the last tick is nothing of a world
+pub held_again : (k : Calls) (made : Option ℕ) → Held k → Held (record k { made = made })
+held_again k made held = record {
+  world = held.world;
+  rest = held.rest;
+  counted = held.counted;
+  sound = held.sound;
+  scheduler = held.scheduler;
+  strays = held.strays;
 }
 
 -- who is chosen

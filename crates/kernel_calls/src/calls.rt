@@ -1,6 +1,6 @@
 //! The running kernel's objects, and the numbers in use.
 
-ghost use Rattle.std.specs.Prelude.{◌≡◌};
+ghost use Rattle.std.specs.Prelude.{◌≡◌, None};
 ghost use Rattle.plain_state.specs.Worlds as worlds;
 ghost use Rattle.call_readings.specs.Kernel.{IsCounted};
 
@@ -19,6 +19,19 @@ pub struct Calls {
 
 impl Calls {
     ghost use Rattle.plain_state.specs.Worlds.{World};
+
+    /// The calls on these objects, with these numbers in use.
+    pub fn new(objects: Objects, numbers: NumbersInUse) -> Self
+        ensures objects { result.objects ≡ objects }
+        ensures numbers { result.numbers ≡ numbers }
+        ensures made { result.made ≡ None }
+    {
+        Calls {
+            objects,
+            numbers,
+            made: None,
+        }
+    }
 
     /// Whether the number of an object is in use, by the running or the saved state.
     pub fn used_object(&self, id: ObjId) -> bool

@@ -48,11 +48,7 @@ fn kernel() -> Calls {
     for page in 0..5 {
         numbers.take_page(page);
     }
-    Calls {
-        objects,
-        numbers,
-        made: None,
-    }
+    Calls::new(objects, numbers)
 }
 
 /// A thread of the group that calls with these arguments.

@@ -55,7 +55,8 @@ fn on_core(id: ObjId, left: u8, goes: Goes) -> Option<(ObjId, u8)>
 
 impl Calls {
     /// Takes the thread that a core runs next, with what is left of its slice: its own, or the front of the run queue
-    /// with a whole slice. It is None exactly where the core has none and the queue is empty.
+    /// with a whole slice. It is None exactly where the core has none and the queue is empty. A tick begins so, and has
+    /// made no object yet.
     pub(crate) fn take_next(&mut self, core: CoreNo) -> Option<(ObjId, u8)>
         requires held { Held self.old }
         requires below { core < CORES }
@@ -66,8 +67,10 @@ impl Calls {
         ensures caller { IfSome result (λ next. (thread : ThreadRecord) × IsCaller self.new.objects next.0 thread) }
         ensures held { Held self.new }
         ensures numbers { self.new.numbers ≡ self.old.numbers }
+        ensures made { self.new.made ≡ None }
     {
         kobj_table::lists_alone();
+        self.made = None;
         if let Some(own) = self.objects.running(core) {
             return Some(own);
         }

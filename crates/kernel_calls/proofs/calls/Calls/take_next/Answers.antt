@@ -15,7 +15,7 @@ use Rattle.kernel_calls.proofs.Places.{free_unlisted, asleep_unlisted}
 use Rattle.kernel_calls.proofs.Queues.{queue_alone, not_the_queue}
 use Rattle.kernel_calls.proofs.Threads.{is_thread_slot}
 use Rattle.kernel_calls.proofs.Connections.{in_range}
-use Rattle.kernel_calls.proofs.Ticks.{sound_left, own_chosen, front_chosen, none_chosen, front_ready, own_running}
+use Rattle.kernel_calls.proofs.Ticks.{held_again, sound_left, own_chosen, front_chosen, none_chosen, front_ready, own_running}
 use Rattle.kernel_calls.proofs.calls.Calls.take_next.Goals as goal
 
 pub returns-in-Some-clause-some : goal.returns-in-Some-clause-some
@@ -105,4 +105,7 @@ pub returns-in-None-clause-idle : goal.returns-in-None-clause-idle
 returns-in-None-clause-idle c = c.in-None.ensures.same
 
 pub returns-in-None-clause-held : goal.returns-in-None-clause-held
-returns-in-None-clause-held c = rw c.in-None.ensures.same c.requires.held
+returns-in-None-clause-held c = rw c.in-None.ensures.same (held_again c.args.self.now None c.requires.held)
+
+pub returns-in-Some-clause-held : goal.returns-in-Some-clause-held
+returns-in-Some-clause-held c = held_again c.args.self.now None c.requires.held
