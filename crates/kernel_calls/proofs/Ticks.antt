@@ -42,6 +42,10 @@ use Rattle.kobj_table.specs.Objects.{object_at}
 use Rattle.kernel_calls.specs.declared.calls.Calls.{Calls}
 use Rattle.kernel_calls.specs.Does.{Does, Tells}
 use Rattle.kernel_calls.specs.Ticking.{Settles}
+use Rattle.call_readings.specs.declared.numbers.NumbersInUse.{NumbersInUse}
+use Rattle.call_readings.specs.Kernel.{world_of, IsCounted}
+use Rattle.kernel_calls.proofs.Objects.{told}
+use Rattle.kernel_calls.proofs.Numbers.{counted_kept}
 use Rattle.kernel_calls.specs.Kernel.{Held, IsSound}
 use Rattle.kernel_calls.proofs.Places.{counts}
 
@@ -211,3 +215,17 @@ ticked k m n rest w core id slice e done d s scheduler =
     let cores : cores_of (slot_at n SCHEDULER) ≡ slice_set (cores_of (slot_at k.objects SCHEDULER)) core (on_core id left (at_slice_end left e.goes)) =
     s.cores ∙ rw d.scheduler (rw goes refl) in
     rw (d.quiet.output, d.quiet.takes) (state_same _ _ _ _ _ _ rest.out rest.inputs objects queue cores)
+
+told_settled : (o n : Objects) (core id left : ℕ) (thread before : ThreadRecord) (done : Done) (content : ℕ → ℕ → ℕ) (i : ℕ) (a b : Bool) → (i == id) ≡ a → (i == SCHEDULER) ≡ b →
+    Settles o n core id left thread done → slot_at o id ≡ Slot.Thread before → is_scheduler (slot_at o SCHEDULER) ≡ true → told (object_at content n i) ≡ told (object_at content o i)
+told_settled o n core id left thread before done content i true b same same' s is scheduler = rw (eqb-true i id same) (rw (s.there, is) refl)
+told_settled o n core id left thread before done content i false true same same' s is scheduler =
+    rw (eqb-true i SCHEDULER same') (ap told (scheduler_is content (slot_at n SCHEDULER) (list_at n.links SCHEDULER) (s.scheduler ∙ scheduler) ∙ sym (scheduler_is content (slot_at o SCHEDULER) (list_at o.links SCHEDULER) scheduler)))
+told_settled o n core id left thread before done content i false false same same' s is scheduler =
+    rw (s.others i (eqb-false i id same) (eqb-false i SCHEDULER same')) (rw (s.lists i (eqb-false i SCHEDULER same')) refl)
+
+-- a thread that is put down changes no number in use
+pub settled_counted : (numbers : NumbersInUse) (o n : Objects) (rest : Rest) (w : World) (core id left : ℕ) (thread before : ThreadRecord) (done : Done) → Settles o n core id left thread done →
+    slot_at o id ≡ Slot.Thread before → is_scheduler (slot_at o SCHEDULER) ≡ true → IsCounted numbers (world_of o rest w) → IsCounted numbers (world_of n rest w)
+settled_counted numbers o n rest w core id left thread before done s is scheduler h =
+    counted_kept numbers o n rest w (λ i. told_settled o n core id left thread before done rest.content i (i == id) (i == SCHEDULER) refl refl s is scheduler) h

@@ -104,6 +104,9 @@ impl Calls {
             → IsAttached self.old.objects devices.now (world_of self.old.objects rest w)
             → result ≡ (ecall (world_of self.old.objects rest w) next.0 thread.now).wishes }
         ensures strays { HasNoStrays self.new.objects }
+        ensures counted { (w : World) (rest : Rest) → IsCounted self.old.numbers (world_of self.old.objects rest w)
+            → IsAttached self.old.objects devices.now (world_of self.old.objects rest w)
+            → IsCounted self.new.numbers (world_of self.new.objects rest w) }
     {
         let (id, slice) = next;
         let done = self.ecall(devices, id, thread);

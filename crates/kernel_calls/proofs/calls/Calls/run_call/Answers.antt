@@ -1,9 +1,9 @@
-use Rattle.std.proofs.Common.{◌≡◌, ◌-◌, refl, subst, ℕ}
+use Rattle.std.proofs.Common.{◌∙◌, ◌≡◌, ◌-◌, refl, subst, ℕ}
 use Rattle.sls_base.specs.declared.thread.Thread.{Thread as ThreadRecord}
 use Rattle.kobj_table.specs.Objects.{state_of}
 use Rattle.plain_state.specs.States.{thread_at}
 use Rattle.kernel_calls.specs.Ticking.{Settles}
-use Rattle.kernel_calls.proofs.Ticks.{ticked}
+use Rattle.kernel_calls.proofs.Ticks.{ticked, settled_counted}
 use Rattle.kernel_calls.proofs.calls.Calls.run_call.Goals as goal
 
 pub settle-requires-clause-free : goal.settle-requires-clause-free
@@ -21,3 +21,10 @@ returns-clause-state c w rest h attached =
     let settles = subst (λ (t : ThreadRecord). Settles m n c.args.core id (c.args.next.1 - 1) t c.ecall-done.result) thread_is
     (subst (λ (left : ℕ). Settles m n c.args.core id left c.args.thread.now c.ecall-done.result) left_is c.settle.ensures.settles) in
     ticked c.args.self.now c.ecall-done.new.self n rest w c.args.core id c.args.next.1 _ c.ecall-done.result (c.ecall-done.ensures.does w rest h attached) settles c.requires.held.held.scheduler
+
+pub returns-clause-counted : goal.returns-clause-counted
+returns-clause-counted c w rest h attached =
+    let does = c.ecall-done.ensures.does w rest h attached in
+    let m = c.ecall-done.new.self in
+    rw c.settle.ensures.numbers (settled_counted m.numbers m.objects c.settle.new.self.objects rest w c.args.core c.args.next.0 c.saturating_sub.result c.args.thread.now c.args.thread.now c.ecall-done.result c.settle.ensures.settles
+    (c.ecall-done.ensures.keeps.caller ∙ c.requires.caller.there) (rw does.scheduler c.requires.held.held.scheduler) does.counted)
