@@ -1,5 +1,5 @@
 -- Words, lines and frames that an event names.
-use Rattle.std.proofs.Common.{◌≡◌, ℕ, ◌+◌, ◌%◌, ◌<◌, ◌≤◌, IsTrue, ◌-◌, arith, refl, subst, true, false, suc, List, Option, slice_index, [], ◌∷◌, ⊎_elim}
+use Rattle.std.proofs.Common.{◌≡◌, ℕ, ◌+◌, ◌%◌, ◌<◌, ◌≤◌, IsTrue, ◌-◌, arith, refl, subst, true, false, suc, List, Option, Some, slice_index, [], ◌∷◌, ⊎_elim}
 use Rattle.std.proofs.lemmas.Bool.{cases_Bool}
 use Rattle.pmem_model.specs.Words.{Word, is_within, bursts}
 use Rattle.pmem_model.specs.Events.{IsBurst, inside_of}
@@ -7,7 +7,9 @@ use Rattle.sls_base.specs.declared.limits.TheConstants.{PAGES}
 use Rattle.pmem_model.specs.Memory.{Memory, AllHome, is_frame_home}
 use Rattle.pmem_model.specs.PlaceLaws.{inside_word, inside_line, home_of, all_home_kept, frame_home_of}
 use Rattle.pmem_layout.specs.Places.{line_at, runtime_frame, backup_frame}
-use Rattle.cow_fault.specs.Events.{after_event, event_at, running}
+use Rattle.cow_fault.specs.Events.{AfterEvent, AfterEvents, event_at}
+use Rattle.page_store.specs.Shows.{Has}
+use Rattle.page_store.specs.Back.{filled}
 use Rattle.cow_fault.specs.declared.history.Event.{Event}
 use Rattle.page_store.specs.Slots.{Slot, Backup, slot_frame, IsPageHome}
 
@@ -42,8 +44,15 @@ one_burst f g at value e = record {
       (cases_Bool (is_within at 1 i));
 }
 
-pub running_next : (events : List Event) (now : ℕ → Option (ℕ → ℕ)) (count : ℕ)
-    → after_event (event_at events count) (running events now count) ≡ running events now (count + 1)
-running_next events now count =
-    let next : suc count ≡ count + 1 = omega arith in
-    subst (λ (n : ℕ). running events now (suc count) ≡ running events now n) next refl
+-- one event more
+pub after_next : (events : List Event) (count : ℕ) (saved now before next : ℕ → Option (ℕ → ℕ))
+    → AfterEvents events count saved now before → AfterEvent (event_at events count) saved before next
+    → AfterEvents events (count + 1) saved now next
+after_next events count saved now before next so_far after =
+    let more : suc count ≡ count + 1 = omega arith in
+    subst (λ (n : ℕ). AfterEvents events n saved now next) more (before, so_far, after)
+
+-- after recovery a page has what was saved of it
+pub has_saved : (saved : ℕ → Option (ℕ → ℕ)) (f : ℕ → Word) (page : ℕ) (content : ℕ → ℕ) → saved page ≡ Some content
+    → Has (filled saved f page) content
+has_saved saved f page content is = λ j lt. rw is refl

@@ -1,18 +1,16 @@
-//! Pages among whatever else happens to the memory between two commits.
+//! Pages among whatever else happens to the memory between two commits, cuts included.
 
-ghost use Rattle.std.specs.Prelude.{◌≡◌, ℕ, ◌<◌, ◌≤◌, ◌↔◌, Option, All, IsTrue, false, if◌then◌else◌, length};
+ghost use Rattle.std.specs.Prelude.{◌≡◌, ℕ, ◌<◌, ◌≤◌, ◌↔◌, Option, All, IsTrue, true, false, length};
 ghost use Rattle.sls_base.specs.declared.limits.TheConstants.{LAST_VERSION};
 ghost use Rattle.pmem_model.specs.Memory.{word_at, AllHome};
-ghost use Rattle.page_store.specs.Slots.{durable_words};
-ghost use Rattle.page_store.specs.Format.{PagesStand};
 ghost use Rattle.page_store.specs.Known.{Phase, Open};
 ghost use Rattle.page_store.specs.Shows.{PagesShow};
 ghost use Rattle.cow_fault.specs.Faults.{MayFault};
-ghost use Rattle.cow_fault.specs.Events.{IsPossible, MayHappen, after_event, event_at, running};
+ghost use Rattle.cow_fault.specs.Events.{IsPossible, MayHappen, AfterEvent, AfterEvents, event_at};
 
 use crate::fault::step;
 use page_store::laws::page_versions;
-use page_store::{PageState, PageStore};
+use page_store::{PageState, PageStore, cut_and_recover};
 use pmem_layout::{frame_at, line_at, runtime_frame};
 use pmem_model::Pmem;
 use sls_base::{CoreNo, LEADER, PageNo, Version};
@@ -36,6 +34,8 @@ pub enum Event {
     WriteBack(usize),
     /// Something is stored in this word, which isn't one of the pages'.
     StoreElsewhere(usize, u64),
+    /// The power goes and comes back, goes again after as many steps of recovery, and the pages are recovered.
+    Cut(usize),
 }
 
 /// Whether the core may take a step of a page's fault.
@@ -56,10 +56,12 @@ fn happen(pages: &mut PageStore, nvm: &mut Pmem, version: Version, event: Event)
     requires possible { IsPossible event }
     requires home { AllHome nvm.old }
     ensures may { IsTrue result ↔ MayHappen pages.old event }
-    ensures same { result ≡ false → pages.new ≡ pages.old }
+    ensures same { result ≡ false → (pages.new ≡ pages.old) × (nvm.new ≡ nvm.old) }
     ensures home { AllHome nvm.new }
-    ensures shows { (saved now : ℕ → Option (ℕ → ℕ)) → PagesShow pages.old (word_at nvm.old) version saved now Open
-        → PagesShow pages.new (word_at nvm.new) version saved (if result then after_event event now else now) Open }
+    ensures shows { result ≡ true → (saved now : ℕ → Option (ℕ → ℕ))
+        → PagesShow pages.old (word_at nvm.old) version saved now Open
+        → (next : ℕ → Option (ℕ → ℕ)) × AfterEvent event saved now next
+        × PagesShow pages.new (word_at nvm.new) version saved next Open }
 {
     page_versions();
     match event {
@@ -98,11 +100,15 @@ fn happen(pages: &mut PageStore, nvm: &mut Pmem, version: Version, event: Event)
             nvm.burst(at, &[value]);
             true
         }
+        Event::Cut(steps) => {
+            cut_and_recover(pages, nvm, version, &[steps]);
+            true
+        }
     }
 }
 
 /// Lets these events happen, in order, up to the first that may not, and tells how many did. The pages of the committed
-/// version stay, and the running ones are as the stores among the events make them.
+/// version stay through all of them. The running ones are as the stores make them, and after a cut as the saved ones.
 pub fn play(pages: &mut PageStore, nvm: &mut Pmem, version: Version, events: &[Event]) -> usize
     requires version { version ≤ LAST_VERSION }
     requires possible { All IsPossible events.now }
@@ -111,7 +117,8 @@ pub fn play(pages: &mut PageStore, nvm: &mut Pmem, version: Version, events: &[E
     ensures stops { result < length events.now → MayHappen pages.new (event_at events.now result) → ⊥ }
     ensures home { AllHome nvm.new }
     ensures shows { (saved now : ℕ → Option (ℕ → ℕ)) → PagesShow pages.old (word_at nvm.old) version saved now Open
-        → PagesShow pages.new (word_at nvm.new) version saved (running events.now now result) Open }
+        → (next : ℕ → Option (ℕ → ℕ)) × AfterEvents events.now result saved now next
+        × PagesShow pages.new (word_at nvm.new) version saved next Open }
 {
     let mut happened = 0;
     for event in events {
@@ -121,19 +128,4 @@ pub fn play(pages: &mut PageStore, nvm: &mut Pmem, version: Version, events: &[E
         happened += 1;
     }
     happened
-}
-
-/// Lets these events happen, up to the first that may not, and cuts the power. What is durable then are the pages of
-/// the committed version.
-pub fn play_and_cut(mut pages: PageStore, nvm: &mut Pmem, version: Version, events: &[Event])
-    requires version { version ≤ LAST_VERSION }
-    requires possible { All IsPossible events.now }
-    requires home { AllHome nvm.old }
-    ensures home { AllHome nvm.new }
-    ensures stands { (saved now : ℕ → Option (ℕ → ℕ)) → PagesShow pages (word_at nvm.old) version saved now Open
-        → PagesStand (durable_words (word_at nvm.new)) version saved }
-{
-    page_versions();
-    play(&mut pages, nvm, version, events);
-    nvm.cut();
 }

@@ -6,7 +6,7 @@ mod fault;
 mod history;
 
 pub use fault::step;
-pub use history::{Event, play, play_and_cut};
+pub use history::{Event, play};
 
 #[cfg(test)]
 mod tests;

@@ -6,7 +6,8 @@ use Rattle.pmem_model.specs.Words.{Word}
 use Rattle.pmem_model.specs.Events.{Clean, WordIs, WordCalm, WordFenced, Left}
 use Rattle.pmem_model.specs.Maps.{AllPlaces, IsKnown, IsLeft, known_calm_in, known_fenced_in, known_left_in}
 use Rattle.pmem_layout.specs.Places.{runtime_frame, frame_at}
-use Rattle.page_store.specs.Slots.{Backup, slot_frame, slot_tag_at, slot_tag, HasSlot, IsOfPage, durable_words}
+use Rattle.page_store.specs.Slots.{Backup, slot_frame, slot_tag_at, slot_tag, HasSlot, durable_words}
+use Rattle.page_store.proofs.Places.{IsOfPage}
 use Rattle.page_store.specs.Format.{Is, frame_of, PageStands}
 use Rattle.page_store.specs.Known.{Phase, Open, Fenced}
 use Rattle.page_store.specs.Shows.{Has, PageShows}

@@ -7,10 +7,11 @@ use Rattle.sls_base.specs.declared.fixed.TheConstants.{LEADER}
 use Rattle.pmem_model.specs.Words.{Word, is_within, bursts, flushes}
 use Rattle.pmem_model.specs.Events.{Cached, Clean, Over, WordFenced, is_apart, burst_one, flush_calm, calm_word}
 use Rattle.pmem_model.specs.Maps.{One, row, known_calm, known_flushed, known_copied, known_elsewhere, row_within}
-use Rattle.pmem_model.specs.Memory.{frame_begin}
+use Rattle.pmem_model.specs.Memory.{frame_begin, count_up, count_by}
 use Rattle.pmem_model.specs.PlaceLaws.{frame_begin-is}
 use Rattle.pmem_layout.specs.Places.{runtime_frame, backup_frame, frame_at, line_at}
-use Rattle.page_store.specs.Slots.{Backup, slot_frame, slot_tag_at, slot_tag, StoresOnlyInPage}
+use Rattle.page_store.specs.Slots.{Backup, slot_frame, slot_tag_at, slot_tag}
+use Rattle.page_store.proofs.Places.{StoresOnlyInPage}
 use Rattle.page_store.specs.Stages.{stage_of, Moves}
 use Rattle.page_store.specs.Known.{Phase, Open, Fenced}
 use Rattle.page_store.specs.Back.{Progress, Found, Cleared, Copied, Plain, Back, PageBack, IsPassed, passed, at_step, progress_of, phase_of, is_back, steps_left, RecoveryShows, RecoveryMoves}
@@ -290,3 +291,10 @@ none_left r none =
     (λ (back : r.is_fenced ≡ true). back)
     (λ (not_yet : r.is_fenced ≡ false). let z = rw not_yet at none in absurd (omega (arith, z)))
     (cases_Bool r.is_fenced)
+
+-- counts of cuts
+pub cut_once : (n : ℕ) → count_up n ≡ count_by n (1 + 0)
+cut_once n = grind (arith, nat_tests)
+
+pub cut_again : (n more : ℕ) → count_up (count_by n (1 + more)) ≡ count_by n (1 + (more + 1))
+cut_again n more = grind (arith, nat_tests)

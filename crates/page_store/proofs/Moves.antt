@@ -9,7 +9,8 @@ use Rattle.pmem_model.specs.Words.{Word, is_within, bursts}
 use Rattle.pmem_model.specs.Events.{WordCalm, WordIs, Clean, calm_same, inside_of}
 use Rattle.pmem_layout.specs.Owners.{Pages}
 use Rattle.pmem_layout.specs.Rooms.{StoresOnlyIn}
-use Rattle.page_store.specs.Slots.{Slot, Backup, slot_tag_at, IsUpTo, IsOfPage, StoresOnlyInPage}
+use Rattle.page_store.specs.Slots.{Slot, Backup, slot_tag_at, IsUpTo}
+use Rattle.page_store.proofs.Places.{IsOfPage, StoresOnlyInPage}
 use Rattle.page_store.specs.Stages.{stage_of, entry_of, stage_at, no_entry, after, IsAt, Moves, MayCopy, MayTag}
 use Rattle.page_store.specs.declared.store.Entry.{Entry}
 use Rattle.page_store.specs.Known.{Phase, Open}

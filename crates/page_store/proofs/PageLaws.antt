@@ -6,7 +6,8 @@ use Rattle.pmem_model.specs.Words.{Word}
 use Rattle.pmem_model.specs.Events.{WordIs, WordCalm, WordFenced, settled, Left, MayBe}
 use Rattle.pmem_model.specs.Maps.{AllPlaces, IsKnown, IsLeft, IsRead, known_calm_in, known_fenced_in, known_left_in, reads_word}
 use Rattle.pmem_layout.specs.Places.{runtime_frame, frame_at}
-use Rattle.page_store.specs.Slots.{Slot, Backup, slot_frame, slot_tag_at, slot_tag, HasSlot, IsOfPage, IsUntagged, IsFrameClean, durable_words}
+use Rattle.page_store.specs.Slots.{Slot, Backup, slot_frame, slot_tag_at, slot_tag, HasSlot, IsUntagged, IsFrameClean, durable_words}
+use Rattle.page_store.proofs.Places.{IsOfPage}
 use Rattle.page_store.specs.Format.{Is, frame_of, PageStands}
 use Rattle.page_store.specs.Stages.{after, flushed, IsFlushed, IsSettled}
 use Rattle.page_store.specs.Known.{Phase, Open, Fenced, flusher, written_kind, kept_kind, tag_kind, tag_now, page_map}

@@ -7,7 +7,23 @@ use Rattle.pmem_model.specs.Places.{offset_of, bank_size, bank_of}
 use Rattle.pmem_model.specs.PlaceLaws.{home-frame, inside_frame, inside_word, inside_line, table_home, frame_home_of, home_of, all_home_kept}
 use Rattle.pmem_layout.specs.Places.{line_at, runtime_frame, backup_frame, frame_at}
 use Rattle.pmem_layout.specs.Owners.{owner, Pages}
-use Rattle.page_store.specs.Slots.{Slot, Backup, slot_frame, IsOfSlot, IsOfPage, IsPageHome}
+use Rattle.pmem_model.specs.Words.{Word}
+use Rattle.pmem_model.specs.Events.{WordCalm}
+use Rattle.page_store.specs.Slots.{Slot, Backup, slot_frame, slot_tag_at, IsPageHome}
+
+-- Which words a page has: those of its runtime frame, and of each slot the frame and the tag.
+abbrev pub IsInFrame : ℕ → ℕ → Type 0
+IsInFrame frame word = (frame_at frame ≤ word) × (word < frame_at frame + FRAME_WORDS)
+
+abbrev pub IsOfSlot : ℕ → Slot → ℕ → Type 0
+IsOfSlot page slot word = IsInFrame (slot_frame page slot) word ⊎ (word ≡ slot_tag_at page slot)
+
+abbrev pub IsOfPage : ℕ → ℕ → Type 0
+IsOfPage page word = IsInFrame (runtime_frame page) word ⊎ ((slot : Slot) × IsOfSlot page slot word)
+
+-- nothing was stored but in one page's words
+pub record StoresOnlyInPage (page : ℕ) (f g : ℕ → Word) : Type 0 where
+  pub at : (word : ℕ) → (IsOfPage page word → ⊥) → WordCalm (f word) (g word)
 
 -- Frames
 

@@ -1,9 +1,9 @@
 -- Where a page stands: in its runtime frame, and in its slots.
-use Rattle.std.specs.Prelude.{◌≡◌, ◌≢◌, ◌⊎◌, ℕ, ◌+◌, ◌<◌, ◌≤◌, IsTrue}
+use Rattle.std.specs.Prelude.{◌≡◌, ◌≢◌, ℕ, ◌+◌, ◌<◌, ◌≤◌, IsTrue}
 use Rattle.sls_base.specs.declared.limits.TheConstants.{FRAME_WORDS}
 use Rattle.pmem_model.specs.Words.{Word}
 use Rattle.sls_base.specs.declared.fixed.TheConstants.{LEADER}
-use Rattle.pmem_model.specs.Events.{WordCalm, WordIs, Clean}
+use Rattle.pmem_model.specs.Events.{WordIs, Clean}
 use Rattle.pmem_model.specs.Memory.{Memory, is_frame_home}
 use Rattle.pmem_layout.specs.Places.{backup_tag_at, runtime_frame, backup_frame, frame_at}
 use Rattle.pmem_layout.specs.Fields.{tag_word}
@@ -51,20 +51,6 @@ IsUntagged f page slot v =
 -- a frame has no word whose cached and durable values differ
 abbrev pub IsFrameClean : (ℕ → Word) → ℕ → Type 0
 IsFrameClean f frame = (j : ℕ) → j < FRAME_WORDS → (f (frame_at frame + j)).cached ≡ (f (frame_at frame + j)).durable
-
--- Which words a page has: those of its runtime frame, and of each slot the frame and the tag.
-abbrev pub IsInFrame : ℕ → ℕ → Type 0
-IsInFrame frame word = (frame_at frame ≤ word) × (word < frame_at frame + FRAME_WORDS)
-
-abbrev pub IsOfSlot : ℕ → Slot → ℕ → Type 0
-IsOfSlot page slot word = IsInFrame (slot_frame page slot) word ⊎ (word ≡ slot_tag_at page slot)
-
-abbrev pub IsOfPage : ℕ → ℕ → Type 0
-IsOfPage page word = IsInFrame (runtime_frame page) word ⊎ ((slot : Slot) × IsOfSlot page slot word)
-
--- nothing was stored but in one page's words
-pub record StoresOnlyInPage (page : ℕ) (f g : ℕ → Word) : Type 0 where
-  pub at : (word : ℕ) → (IsOfPage page word → ⊥) → WordCalm (f word) (g word)
 
 -- the frames of a page are at home
 pub record IsPageHome (nvm : Memory) (page : ℕ) : Type 0 where

@@ -1,10 +1,10 @@
 //! Pages through a commit, and through cuts in recovery.
 
-ghost use Rattle.std.specs.Prelude.{◌≡◌, ℕ, ◌+◌, ◌<◌, ◌≤◌, ◌↔◌, Option, IsTrue};
+ghost use Rattle.std.specs.Prelude.{◌≡◌, ℕ, ◌+◌, ◌<◌, ◌≤◌, ◌↔◌, Option, IsTrue, length};
 ghost use Rattle.sls_base.specs.declared.limits.TheConstants.{LAST_VERSION, PAGES};
 ghost use Rattle.sls_base.specs.declared.fixed.TheConstants.{LEADER};
 ghost use Rattle.pmem_model.specs.Events.{Clean, WordIs};
-ghost use Rattle.pmem_model.specs.Memory.{word_at, AllHome};
+ghost use Rattle.pmem_model.specs.Memory.{word_at, AllHome, count_up, count_by};
 ghost use Rattle.pmem_layout.specs.Owners as owners;
 ghost use Rattle.pmem_layout.specs.Rooms.{StoresOnlyIn};
 ghost use Rattle.page_store.specs.Slots.{durable_words, IsAllClean};
@@ -52,6 +52,7 @@ fn cut_recovery(nvm: &mut Pmem, version: Version, steps: usize)
     requires version { version ≤ LAST_VERSION }
     requires home { AllHome nvm.old }
     requires clean { IsAllClean (word_at nvm.old) }
+    ensures cuts { nvm.new.cuts ≡ count_up nvm.old.cuts }
     ensures home { AllHome nvm.new }
     ensures clean { IsAllClean (word_at nvm.new) }
     ensures stands { (saved : ℕ → Option (ℕ → ℕ)) → PagesStand (durable_words (word_at nvm.old)) version saved
@@ -70,6 +71,7 @@ fn recover(nvm: &mut Pmem, version: Version) -> PageStore
     requires version { version ≤ LAST_VERSION }
     requires home { AllHome nvm.old }
     requires clean { IsAllClean (word_at nvm.old) }
+    ensures cuts { nvm.new.cuts ≡ nvm.old.cuts }
     ensures home { AllHome nvm.new }
     ensures shows { (saved : ℕ → Option (ℕ → ℕ)) → PagesStand (durable_words (word_at nvm.old)) version saved
         → PagesShow result (word_at nvm.new) version saved (filled saved (word_at nvm.new)) Open }
@@ -83,22 +85,18 @@ fn recover(nvm: &mut Pmem, version: Version) -> PageStore
 
 /// Cuts the power and recovers the pages of the committed version. Recovery itself is cut after as many steps as each
 /// of `cuts` says, and begins anew each time.
-pub fn cut_and_recover(
-    pages: PageStore,
-    nvm: &mut Pmem,
-    version: Version,
-    cuts: &[usize],
-) -> PageStore
+pub fn cut_and_recover(pages: &mut PageStore, nvm: &mut Pmem, version: Version, cuts: &[usize])
     requires version { version ≤ LAST_VERSION }
     requires home { AllHome nvm.old }
+    ensures cuts { nvm.new.cuts ≡ count_by nvm.old.cuts (1 + length cuts.now) }
     ensures home { AllHome nvm.new }
-    ensures shows { (saved now : ℕ → Option (ℕ → ℕ)) → PagesShow pages (word_at nvm.old) version saved now Open
-        → PagesShow result (word_at nvm.new) version saved (filled saved (word_at nvm.new)) Open }
+    ensures shows { (saved now : ℕ → Option (ℕ → ℕ)) → PagesShow pages.old (word_at nvm.old) version saved now Open
+        → PagesShow pages.new (word_at nvm.new) version saved (filled saved (word_at nvm.new)) Open }
 {
     laws::page_versions();
     nvm.cut();
     for steps in cuts {
         cut_recovery(nvm, version, *steps);
     }
-    recover(nvm, version)
+    *pages = recover(nvm, version);
 }

@@ -70,6 +70,7 @@ impl Recovery {
         ensures left { is_back self.old ≡ false → steps_left self.new < steps_left self.old }
         ensures stays { is_back self.old ≡ true → self.new ≡ self.old }
         ensures one { (nvm.new ≡ nvm.old) ⊎ (nvm.new.ops ≡ count_up nvm.old.ops) }
+        ensures cuts { nvm.new.cuts ≡ nvm.old.cuts }
         ensures home { AllHome nvm.new }
         ensures rest { StoresOnlyIn owners.Pages (word_at nvm.old) (word_at nvm.new) }
         ensures shows { (saved : ℕ → Option (ℕ → ℕ)) → RecoveryShows self.old (word_at nvm.old) version saved

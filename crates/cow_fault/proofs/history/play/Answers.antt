@@ -1,31 +1,31 @@
-use Rattle.std.proofs.Common.{ℕ, Option, Bool, if◌then◌else◌, subst, arith}
-use Rattle.pmem_model.specs.Memory.{word_at}
+use Rattle.std.proofs.Common.{arith, subst, sym}
+use Rattle.pmem_model.specs.Memory.{Memory, word_at}
 use Rattle.page_store.specs.Known.{Open}
 use Rattle.page_store.specs.Shows.{PagesShow}
-use Rattle.cow_fault.specs.Events.{after_event, event_at, running}
-use Rattle.cow_fault.proofs.Places.{running_next}
+use Rattle.page_store.specs.declared.store.PageStore.{PageStore}
+use Rattle.cow_fault.proofs.Places.{after_next}
 use Rattle.cow_fault.proofs.history.play.Goals as goal
 
 pub returns-then-not-happen-clause-shows : goal.returns-then-not-happen-clause-shows
 returns-then-not-happen-clause-shows c = λ saved now h.
-    let before = c.loop-event.invariant.shows saved now h in
-    let after = c.happen.ensures.shows saved (running c.args.events.now now c.loop-event.event-index) before in
-    rw c.loop-event.invariant.count (rw c.if-not-happen.true at after)
+    let (next, after, shown) = c.loop-event.invariant.shows saved now h in
+    let same = c.happen.ensures.same c.if-not-happen.true in (
+      next,
+      rw c.loop-event.invariant.count after,
+      subst (λ (p : PageStore). PagesShow p (word_at c.happen.new.nvm) c.args.version saved next Open) (sym same.0)
+          (subst (λ (m : Memory). PagesShow c.loop-event.pages (word_at m) c.args.version saved next Open) (sym same.1) shown),
+    )
 
 pub loop-event-preserved : goal.loop-event-preserved
 loop-event-preserved c = record {
   home = c.happen.ensures.home;
   count = omega (arith, c.loop-event.invariant.count);
   shows = λ saved now h.
-      let before = c.loop-event.invariant.shows saved now h in
-      let after = c.happen.ensures.shows saved (running c.args.events.now now c.loop-event.event-index) before in
-      let ran = running c.args.events.now now c.loop-event.event-index in
-      let event = event_at c.args.events.now c.loop-event.event-index in
-      subst (λ (next : ℕ → Option (ℕ → ℕ)). PagesShow c.happen.new.pages (word_at c.happen.new.nvm) c.args.version saved next Open)
-      (running_next c.args.events.now now c.loop-event.event-index)
-      (subst (λ (b : Bool). PagesShow c.happen.new.pages (word_at c.happen.new.nvm) c.args.version saved
-      (if b then after_event event ran else ran) Open) c.if-not-happen.false after);
+      let (before, so_far, shown) = c.loop-event.invariant.shows saved now h in
+      let (next, after, then_shown) = c.happen.ensures.shows c.if-not-happen.false saved before shown in
+      (next, after_next c.args.events.now c.loop-event.event-index saved now before next so_far after, then_shown);
 }
 
 pub returns-clause-shows : goal.returns-clause-shows
-returns-clause-shows c = λ saved now h. rw c.loop-event.invariant.count (c.loop-event.invariant.shows saved now h)
+returns-clause-shows c = λ saved now h.
+    let (next, after, shown) = c.loop-event.invariant.shows saved now h in (next, rw c.loop-event.invariant.count after, shown)

@@ -1,3 +1,4 @@
+use Rattle.std.proofs.Common.{◌∙◌}
 use Rattle.pmem_model.specs.Memory.{word_at}
 use Rattle.pmem_model.specs.Events.{cut_left}
 use Rattle.pmem_layout.specs.Owners.{Pages}
@@ -7,6 +8,7 @@ use Rattle.page_store.proofs.history.cut_recovery.Goals as goal
 
 pub loop-done-preserved : goal.loop-done-preserved
 loop-done-preserved c = record {
+  cuts = c.step.ensures.cuts ∙ c.loop-done.invariant.cuts;
   home = c.step.ensures.home;
   shows = λ saved h. c.step.ensures.shows saved (c.loop-done.invariant.shows saved h);
 }

@@ -1,4 +1,4 @@
-use Rattle.std.proofs.Common.{ℕ, ◌+◌, ◌≤◌, Option}
+use Rattle.std.proofs.Common.{ℕ, ◌+◌, ◌≤◌, Option, ◌≡◌}
 use Rattle.pmem_model.specs.Memory.{word_at, AllHome}
 use Rattle.page_store.specs.declared.recovery.TheConstants.{RECOVERY_STEPS}
 use Rattle.page_store.specs.Slots.{durable_words}
@@ -8,6 +8,7 @@ use Rattle.page_store.proofs.history.recover.Given as goal
 
 abbrev pub invariant-loop-done : goal.invariant-loop-done
 invariant-loop-done l = record {
+  cuts : l.nvm.cuts ≡ l.fn.nvm.cuts;
   home : AllHome l.nvm;
   left : steps_left l.recovery + l._done ≤ RECOVERY_STEPS;
   shows : (saved : ℕ → Option (ℕ → ℕ)) → PagesStand (durable_words (word_at l.fn.nvm)) l.version saved
