@@ -1,0 +1,4 @@
+pub mod Words
+pub mod Contents
+pub mod Frames
+pub mod Stores

@@ -1,0 +1,27 @@
+//! Laws. Each of these functions does nothing: its contract is the law.
+
+ghost use Rattle.std.specs.Prelude.{◌≡◌, ℕ, ◌+◌, ◌%◌, ◌≤◌, List, Some, find, length};
+ghost use Rattle.sls_base.specs.declared.limits.TheConstants.{PAGE_BYTES};
+ghost use Rattle.mem_space.specs.declared.memory.MemPage.{MemPage};
+ghost use Rattle.plain_state.specs.declared.objects.Region.{Region};
+ghost use Rattle.plain_model.specs.Memory.{covers, place_in, places_of, stores_at, with_stores};
+ghost use Rattle.plain_laws.specs.Sound.{AreApart};
+ghost use Rattle.kobj_table.specs.declared.objects.Objects.{Objects};
+ghost use Rattle.kobj_table.specs.Objects.{Rest, state_of};
+ghost use Rattle.page_bytes.specs.Bytes.{with_bytes, IsStoredAt};
+
+/// Where each page is of one object alone, bytes that come to stand on a page are the stores of the plain machine to
+/// the addresses at which a region has it.
+pub fn stores_change_content()
+    ensures { (objects : Objects) (rest : Rest) (regions : List Region) (region : Region) (right at : ℕ) (page : MemPage)
+        (bytes : List ℕ) → AreApart (state_of objects rest)
+        → find (covers right at) regions ≡ Some region → at % PAGE_BYTES + length bytes ≤ PAGE_BYTES
+        → IsStoredAt objects (place_in at region) page
+        → state_of objects (record rest { content = with_bytes rest.content page.page (at % PAGE_BYTES) bytes })
+        ≡ record (state_of objects rest) {
+          objects = with_stores (state_of objects rest).objects
+              (stores_at (places_of regions right at (length bytes)) bytes);
+        } }
+{
+    plain_laws::calls::bytes_on_one_page();
+}
