@@ -2,3 +2,5 @@ pub mod Words
 pub mod Contents
 pub mod Frames
 pub mod Stores
+pub mod Seen
+pub mod Unseen

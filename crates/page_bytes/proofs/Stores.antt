@@ -62,7 +62,7 @@ unfolding state_of
 numbers_at o rest i pages there = rw there refl
 
 module _ (o : Objects) (rest : Rest) (apart : AreApart (state_of o rest)) where
-  has_page : (i : ℕ) (pages : Pages) (j page : ℕ) → slot_at o i ≡ Slot.Memory pages → j < length pages.pages.items
+  pub has_page : (i : ℕ) (pages : Pages) (j page : ℕ) → slot_at o i ≡ Slot.Memory pages → j < length pages.pages.items
       → (slice_index_or pages.pages.items j no_mem).page ≡ page → Contains (page_numbers ((state_of o rest).objects i)) page
   has_page i pages j page there inside is =
       rw (numbers_at o rest i pages there)

@@ -1,13 +1,15 @@
 -- Bytes that stand on a page in place of others.
-use Rattle.std.specs.Prelude.{◌≡◌, ℕ, ◌+◌, ◌-◌, ◌/◌, ◌==◌, false, if◌then◌else◌, List, length, Some, slice_get, slice_index}
+use Rattle.std.specs.Prelude.{◌≡◌, ℕ, ◌+◌, ◌-◌, ◌/◌, ◌==◌, false, if◌then◌else◌, Contains, List, length, Some, option_map, slice_get, slice_index}
 use Rattle.pmem_model.specs.Words.{is_within, bursts}
 use Rattle.pmem_model.specs.Memory.{Memory, word_at, SameHomes, count_up}
 use Rattle.pmem_layout.specs.Places.{frame_at, runtime_frame}
 use Rattle.mem_space.specs.declared.memory.MemPage.{MemPage}
 use Rattle.plain_state.specs.declared.effect.Place.{Place}
+use Rattle.plain_model.specs.Objects.{regions_of}
+use Rattle.plain_model.specs.Memory.{page_at, place_of}
 use Rattle.kobj_table.specs.declared.objects.Objects.{Objects}
-use Rattle.kobj_table.specs.Slots.{memory_in}
-use Rattle.kobj_table.specs.Objects.{slot_at}
+use Rattle.kobj_table.specs.Slots.{memory_in, page_of}
+use Rattle.kobj_table.specs.Objects.{slot_at, object_at}
 use Rattle.call_readings.specs.declared.content.TheConstants.{WORD_BYTES}
 
 -- a page with these bytes from an offset on, and all else as before
@@ -40,3 +42,14 @@ pub record StoresWords (page first count : ℕ) (old new : Memory) : Type 0 wher
 pub record IsStoredAt (objects : Objects) (place : Place) (page : MemPage) : Type 0 where
   pub there : slice_get (memory_in (slot_at objects place.memory)).pages.items place.page ≡ Some page
   pub stored : page.fresh ≡ false
+
+-- Whatever the content of pages is, a space has a page at an address, with a right.
+abbrev pub SeesPage : Objects → ℕ → ℕ → ℕ → MemPage → Type 0
+SeesPage objects space right at page = (content : ℕ → ℕ → ℕ) → Some (page_of content page)
+    ≡ option_map (page_at (object_at content objects)) (place_of (regions_of (object_at content objects space)) right at)
+
+-- Of the pages that memory objects have, all that aren't fresh have the same content by both.
+abbrev pub IsSameOnPages : Objects → (ℕ → ℕ → ℕ) → (ℕ → ℕ → ℕ) → Type 0
+IsSameOnPages objects first second = (i : ℕ) (page : MemPage) (offset : ℕ)
+    → Contains (memory_in (slot_at objects i)).pages.items page → page.fresh ≡ false
+    → first page.page offset ≡ second page.page offset

@@ -1,14 +1,15 @@
 //! Laws. Each of these functions does nothing: its contract is the law.
 
-ghost use Rattle.std.specs.Prelude.{◌≡◌, ℕ, ◌+◌, ◌%◌, ◌≤◌, List, Some, find, length};
-ghost use Rattle.sls_base.specs.declared.limits.TheConstants.{PAGE_BYTES};
+ghost use Rattle.std.specs.Prelude.{◌≡◌, ℕ, ◌+◌, ◌%◌, ◌<◌, ◌≤◌, false, List, Some, find, length};
+ghost use Rattle.sls_base.specs.declared.limits.TheConstants.{PAGE_BYTES, PAGES};
 ghost use Rattle.mem_space.specs.declared.memory.MemPage.{MemPage};
 ghost use Rattle.plain_state.specs.declared.objects.Region.{Region};
+ghost use Rattle.plain_model.specs.Objects.{regions_of};
 ghost use Rattle.plain_model.specs.Memory.{covers, place_in, places_of, stores_at, with_stores};
 ghost use Rattle.plain_laws.specs.Sound.{AreApart};
 ghost use Rattle.kobj_table.specs.declared.objects.Objects.{Objects};
-ghost use Rattle.kobj_table.specs.Objects.{Rest, state_of};
-ghost use Rattle.page_bytes.specs.Bytes.{with_bytes, IsStoredAt};
+ghost use Rattle.kobj_table.specs.Objects.{object_at, Rest, state_of};
+ghost use Rattle.page_bytes.specs.Bytes.{with_bytes, IsSameOnPages, IsStoredAt, SeesPage};
 
 /// Where each page is of one object alone, bytes that come to stand on a page are the stores of the plain machine to
 /// the addresses at which a region has it.
@@ -25,3 +26,26 @@ pub fn stores_change_content()
 {
     plain_laws::calls::bytes_on_one_page();
 }
+
+/// So they are where a space has the page at the address, and something was stored to it before. There is such a page.
+pub fn stores_at_addresses()
+    ensures state { (objects : Objects) (rest : Rest) (space right at : ℕ) (page : MemPage) (bytes : List ℕ)
+        → AreApart (state_of objects rest) → SeesPage objects space right at page → page.fresh ≡ false
+        → at % PAGE_BYTES + length bytes ≤ PAGE_BYTES
+        → state_of objects (record rest { content = with_bytes rest.content page.page (at % PAGE_BYTES) bytes })
+        ≡ record (state_of objects rest) {
+          objects = with_stores (state_of objects rest).objects
+              (stores_at (places_of (regions_of (object_at rest.content objects space)) right at (length bytes)) bytes);
+        } }
+    ensures range { (objects : Objects) (rest : Rest) (space right at : ℕ) (page : MemPage)
+        → AreApart (state_of objects rest) → SeesPage objects space right at page → page.fresh ≡ false
+        → page.page < PAGES }
+{
+    stores_change_content();
+}
+
+/// The content of a page that no memory object has, or that is fresh, is no part of the state.
+pub fn other_pages_are_not_seen()
+    ensures { (objects : Objects) (rest : Rest) (content : ℕ → ℕ → ℕ) → IsSameOnPages objects content rest.content
+        → state_of objects (record rest { content = content }) ≡ state_of objects rest }
+{}

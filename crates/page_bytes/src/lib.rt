@@ -4,5 +4,5 @@
 mod laws;
 mod store;
 
-pub use laws::stores_change_content;
-pub use store::{store_bytes, store_number};
+pub use laws::{other_pages_are_not_seen, stores_at_addresses, stores_change_content};
+pub use store::{MOST_BYTES, store_bytes, store_number};
