@@ -4,3 +4,4 @@ pub mod Frames
 pub mod Stores
 pub mod Seen
 pub mod Unseen
+pub mod Parts

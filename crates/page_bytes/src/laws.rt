@@ -1,11 +1,11 @@
 //! Laws. Each of these functions does nothing: its contract is the law.
 
-ghost use Rattle.std.specs.Prelude.{◌≡◌, ℕ, ◌+◌, ◌%◌, ◌<◌, ◌≤◌, false, List, Some, find, length};
+ghost use Rattle.std.specs.Prelude.{◌≡◌, ℕ, ◌+◌, ◌%◌, ◌<◌, ◌≤◌, false, true, List, ◌++◌, Option, Some, find, length};
 ghost use Rattle.sls_base.specs.declared.limits.TheConstants.{PAGE_BYTES, PAGES};
 ghost use Rattle.mem_space.specs.declared.memory.MemPage.{MemPage};
 ghost use Rattle.plain_state.specs.declared.objects.Region.{Region};
-ghost use Rattle.plain_model.specs.Objects.{regions_of};
-ghost use Rattle.plain_model.specs.Memory.{covers, place_in, places_of, stores_at, with_stores};
+ghost use Rattle.plain_model.specs.Objects.{Object, regions_of};
+ghost use Rattle.plain_model.specs.Memory.{bytes_of_number, covers, is_covered, place_in, places_of, stores_at, with_stores};
 ghost use Rattle.plain_laws.specs.Sound.{AreApart};
 ghost use Rattle.kobj_table.specs.declared.objects.Objects.{Objects};
 ghost use Rattle.kobj_table.specs.Objects.{object_at, Rest, state_of};
@@ -37,12 +37,34 @@ pub fn stores_at_addresses()
           objects = with_stores (state_of objects rest).objects
               (stores_at (places_of (regions_of (object_at rest.content objects space)) right at (length bytes)) bytes);
         } }
+    ensures number { (objects : Objects) (rest : Rest) (space right at size value : ℕ) (page : MemPage)
+        → AreApart (state_of objects rest) → SeesPage objects space right at page → page.fresh ≡ false
+        → at % PAGE_BYTES + size ≤ PAGE_BYTES
+        → state_of objects
+        (record rest { content = with_bytes rest.content page.page (at % PAGE_BYTES) (bytes_of_number size value) })
+        ≡ record (state_of objects rest) {
+          objects = with_stores (state_of objects rest).objects
+              (stores_at (places_of (regions_of (object_at rest.content objects space)) right at size)
+              (bytes_of_number size value));
+        } }
     ensures range { (objects : Objects) (rest : Rest) (space right at : ℕ) (page : MemPage)
         → AreApart (state_of objects rest) → SeesPage objects space right at page → page.fresh ≡ false
         → page.page < PAGES }
 {
     stores_change_content();
 }
+
+/// Bytes are stored in parts: the first, and then those behind them. Whatever the content of pages is, each page is of one
+/// object alone where it is so by any.
+pub fn stores_in_parts()
+    ensures parts { (objects : ℕ → Option Object) (regions : List Region) (right at : ℕ) (first behind : List ℕ)
+        → is_covered regions right at (length first) ≡ true
+        → with_stores objects (stores_at (places_of regions right at (length first + length behind)) (first ++ behind))
+        ≡ with_stores (with_stores objects (stores_at (places_of regions right at (length first)) first))
+        (stores_at (places_of regions right (at + length first) (length behind)) behind) }
+    ensures apart { (objects : Objects) (rest : Rest) (content : ℕ → ℕ → ℕ) → AreApart (state_of objects rest)
+        → AreApart (state_of objects (record rest { content = content })) }
+{}
 
 /// The content of a page that no memory object has, or that is fresh, is no part of the state.
 pub fn other_pages_are_not_seen()

@@ -4,5 +4,7 @@
 mod laws;
 mod store;
 
-pub use laws::{other_pages_are_not_seen, stores_at_addresses, stores_change_content};
+pub use laws::{
+    other_pages_are_not_seen, stores_at_addresses, stores_change_content, stores_in_parts,
+};
 pub use store::{MOST_BYTES, store_bytes, store_number};
