@@ -1,7 +1,6 @@
 -- Bytes that are stored in two parts.
-use Rattle.std.specs.Prelude.{◌≡◌, ℕ, zero, suc, ◌+◌, ◌&&◌, Bool, true, false, if◌then◌else◌, List, [], ◌∷◌, ◌++◌, length, map, Contains, Option, Some, None, is_some}
-use Rattle.std.specs.List.{range_with_len, list_all}
-use Rattle.std.proofs.Common.{refl, ap, sym, subst, ◌∙◌, arith}
+use Rattle.std.specs.Prelude.{◌≡◌, ℕ, suc, ◌+◌, ◌&&◌, Bool, true, false, List, [], ◌∷◌, ◌++◌, length, map, Contains, Option, Some, None, is_some}
+use Rattle.std.proofs.Common.{refl, ap, subst, ◌∙◌, arith}
 use Rattle.mem_space.specs.declared.memory.MemPage.{MemPage}
 use Rattle.plain_state.specs.declared.objects.Region.{Region}
 use Rattle.plain_state.specs.declared.effect.Place.{Place}
@@ -12,7 +11,7 @@ use Rattle.link_lists.specs.Lists.{list_at}
 use Rattle.kobj_table.specs.declared.objects.Objects.{Objects}
 use Rattle.kobj_table.specs.declared.slot.Slot.{Slot}
 use Rattle.kobj_table.specs.Slots.{object_of, page_of}
-use Rattle.kobj_table.specs.Objects.{slot_at, object_at, Rest, state_of}
+use Rattle.kobj_table.specs.Objects.{slot_at, Rest, state_of}
 
 -- the first of some bytes is covered, and so are the others
 record Covered (regions : List Region) (right at count : ℕ) : Type 0 where

@@ -1,11 +1,11 @@
 -- A page that a space has at an address, whatever the content of pages is.
-use Rattle.std.specs.Prelude.{◌≡◌, ◌≢◌, ℕ, zero, suc, ◌+◌, ◌<◌, ◌==◌, Bool, true, false, if◌then◌else◌, List, [], ◌∷◌, find, map, Contains, Option, Some, None, option_map, slice_get, slice_index_or}
+use Rattle.std.specs.Prelude.{◌≡◌, ◌≢◌, ℕ, zero, suc, ◌<◌, ◌==◌, Bool, true, false, if◌then◌else◌, List, [], ◌∷◌, find, map, Option, Some, None, option_map, slice_get, slice_index_or}
 use Rattle.std.proofs.Common.{refl, ap, sym, ◌∙◌, arith}
 use Rattle.sls_base.specs.declared.limits.TheConstants.{OUTPUT_CHANNELS, PAGES}
 use Rattle.mem_space.specs.declared.memory.MemPage.{MemPage}
 use Rattle.plain_state.specs.declared.objects.Region.{Region}
 use Rattle.plain_state.specs.declared.effect.Place.{Place}
-use Rattle.plain_state.specs.Objects.{Object, InputRing, OutputRing, Page, pages_of, page_numbers, regions_of}
+use Rattle.plain_state.specs.Objects.{InputRing, OutputRing, Page, pages_of, regions_of}
 use Rattle.plain_state.specs.Memory.{covers, no_page, page_at, place_in, place_of}
 use Rattle.plain_laws.specs.Sound.{AreApart}
 use Rattle.kobj_table.specs.declared.objects.Objects.{Objects}
@@ -14,7 +14,6 @@ use Rattle.kobj_table.specs.Slots.{memory_in, object_of, page_of, bytes_of}
 use Rattle.kobj_table.specs.Objects.{slot_at, object_at, Rest, state_of}
 use Rattle.link_lists.specs.Lists.{list_at}
 use Rattle.page_bytes.specs.Bytes.{IsStoredAt, SeesPage}
-use Rattle.page_bytes.proofs.Contents.{OnPage}
 use Rattle.page_bytes.proofs.Stores.{has_page, on_page}
 
 -- a content in which each page has ones

@@ -1,12 +1,12 @@
 -- Pages whose content is no part of the state.
-use Rattle.std.specs.Prelude.{◌≡◌, ℕ, zero, suc, ◌+◌, ◌<◌, Bool, true, false, List, [], ◌∷◌, map, length, Contains, Option, Some, slice_index_or}
-use Rattle.std.proofs.Common.{refl, ap, sym, ◌∙◌, arith}
+use Rattle.std.specs.Prelude.{◌≡◌, ℕ, suc, Bool, true, false, List, [], ◌∷◌, map, Contains, Some}
+use Rattle.std.proofs.Common.{refl, ap, arith}
 use mathlib.Core.Path.{fun_ext}
 use Rattle.mem_space.specs.declared.memory.MemPage.{MemPage}
-use Rattle.plain_state.specs.Objects.{Object, Memory, Page}
+use Rattle.plain_state.specs.Objects.{Memory, Page}
 use Rattle.kobj_table.specs.declared.objects.Objects.{Objects}
 use Rattle.kobj_table.specs.declared.slot.Slot.{Slot}
-use Rattle.kobj_table.specs.Slots.{memory_in, object_of, page_of, bytes_of}
+use Rattle.kobj_table.specs.Slots.{memory_in, object_of, page_of}
 use Rattle.kobj_table.specs.Objects.{slot_at, object_at}
 use Rattle.link_lists.specs.Lists.{list_at}
 use Rattle.page_bytes.specs.Bytes.{IsSameOnPages}

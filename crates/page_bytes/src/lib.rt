@@ -8,3 +8,6 @@ pub use laws::{
     other_pages_are_not_seen, stores_at_addresses, stores_change_content, stores_in_parts,
 };
 pub use store::{MOST_BYTES, store_bytes, store_number};
+
+#[cfg(test)]
+mod tests;
