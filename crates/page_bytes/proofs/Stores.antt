@@ -22,14 +22,14 @@ use Rattle.page_bytes.proofs.Contents.{no_mem, OnPage, stores_on}
 
 -- The pages of a memory object.
 
-abbrev numbers_in : (ℕ → ℕ → ℕ) → List MemPage → List ℕ
+abbrev pub numbers_in : (ℕ → ℕ → ℕ) → List MemPage → List ℕ
 numbers_in content pages = map (λ (p : Page). p.number) (map (page_of content) pages)
 
-length_numbers : (content : ℕ → ℕ → ℕ) (pages : List MemPage) → length (numbers_in content pages) ≡ length pages
+pub length_numbers : (content : ℕ → ℕ → ℕ) (pages : List MemPage) → length (numbers_in content pages) ≡ length pages
 length_numbers content [] = refl
 length_numbers content (p ∷ pages) = rw (length_numbers content pages) refl
 
-number_at : (content : ℕ → ℕ → ℕ) (pages : List MemPage) (k default : ℕ) → k < length pages
+pub number_at : (content : ℕ → ℕ → ℕ) (pages : List MemPage) (k default : ℕ) → k < length pages
     → slice_index_or (numbers_in content pages) k default ≡ (slice_index_or pages k no_mem).page
 number_at content [] k default inside = absurd (omega (arith, inside))
 number_at content (p ∷ pages) zero default inside = refl

@@ -1,15 +1,19 @@
 -- Pages whose content is no part of the state.
-use Rattle.std.specs.Prelude.{◌≡◌, ℕ, suc, Bool, true, false, List, [], ◌∷◌, map, Contains, Some}
-use Rattle.std.proofs.Common.{refl, ap, arith}
+use Rattle.std.specs.Prelude.{◌≡◌, ◌≢◌, ℕ, zero, suc, ◌<◌, Bool, true, false, List, [], ◌∷◌, map, length, Contains, Option, Some, slice_index_or}
+use Rattle.std.proofs.Common.{refl, ap, subst, ◌∙◌, arith}
+use Rattle.std.proofs.lemmas.Bool.{ne_eqb}
 use mathlib.Core.Path.{fun_ext}
 use Rattle.mem_space.specs.declared.memory.MemPage.{MemPage}
-use Rattle.plain_state.specs.Objects.{Memory, Page}
+use Rattle.plain_state.specs.Objects.{Memory, Object, OutputRing, Page, page_numbers, page_of_channel}
 use Rattle.kobj_table.specs.declared.objects.Objects.{Objects}
 use Rattle.kobj_table.specs.declared.slot.Slot.{Slot}
 use Rattle.kobj_table.specs.Slots.{memory_in, object_of, page_of}
-use Rattle.kobj_table.specs.Objects.{slot_at, object_at}
+use Rattle.kobj_table.specs.Objects.{slot_at, object_at, Rest, state_of}
+use Rattle.plain_laws.specs.Sound.{AreApart}
 use Rattle.link_lists.specs.Lists.{list_at}
-use Rattle.page_bytes.specs.Bytes.{IsSameOnPages}
+use Rattle.page_bytes.specs.Bytes.{IsSameOnPages, with_bytes}
+use Rattle.page_bytes.proofs.Contents.{no_mem}
+use Rattle.page_bytes.proofs.Stores.{length_numbers, number_at}
 
 -- the pages of a list
 abbrev Alike : (ℕ → ℕ → ℕ) → (ℕ → ℕ → ℕ) → List MemPage → Type 0
@@ -41,3 +45,55 @@ object_alike first second (Slot.Scheduler c) listed same = refl
 
 pub objects_alike : (o : Objects) (first second : ℕ → ℕ → ℕ) → IsSameOnPages o first second → object_at first o ≡ object_at second o
 objects_alike o first second same = fun_ext (λ i. object_alike first second (slot_at o i) (list_at o.links i) (λ page offset has stored. same i page offset has stored))
+
+-- The page of an output ring, where each page is of one object alone.
+
+any_default : (pages : List MemPage) (k : ℕ) (d e : MemPage) → k < length pages → slice_index_or pages k d ≡ slice_index_or pages k e
+any_default [] k d e inside = absurd (omega (arith, inside))
+any_default (p ∷ pages) zero d e inside = refl
+any_default (p ∷ pages) (suc k) d e inside = any_default pages k d e (omega (arith, inside))
+
+has_number : (content : ℕ → ℕ → ℕ) (slot : Slot) (listed : List ℕ) (page : MemPage) → Contains (memory_in slot).pages.items page
+    → Contains (page_numbers (object_of content slot listed)) page.page
+has_number content Slot.Empty listed page has = absurd (omega (arith, has.1))
+has_number content (Slot.Group g) listed page has = absurd (omega (arith, has.1))
+has_number content (Slot.Thread t) listed page has = absurd (omega (arith, has.1))
+has_number content (Slot.Space s) listed page has = absurd (omega (arith, has.1))
+has_number content (Slot.Memory m) listed page has =
+    let pages = m.pages.items in
+    let k = has.0 in (
+      k,
+      rw (length_numbers content pages) has.1,
+      number_at content pages k page.page has.1 ∙ ap (λ (p : MemPage). p.page) (any_default pages k no_mem page has.1 ∙ has.2),
+    )
+has_number content (Slot.Connection c) listed page has = absurd (omega (arith, has.1))
+has_number content (Slot.Notification n) listed page has = absurd (omega (arith, has.1))
+has_number content (Slot.Ring r) listed page has = absurd (omega (arith, has.1))
+has_number content (Slot.Scheduler c) listed page has = absurd (omega (arith, has.1))
+
+no_ring : (content : ℕ → ℕ → ℕ) (slot : Slot) (listed : List ℕ) (page : MemPage) (channel : ℕ) → Contains (memory_in slot).pages.items page
+    → object_of content slot listed ≢ Some (OutputRing channel)
+no_ring content Slot.Empty listed page channel has e = absurd (omega (arith, has.1))
+no_ring content (Slot.Group g) listed page channel has e = absurd (omega (arith, has.1))
+no_ring content (Slot.Thread t) listed page channel has e = absurd (omega (arith, has.1))
+no_ring content (Slot.Space s) listed page channel has e = absurd (omega (arith, has.1))
+no_ring content (Slot.Memory m) listed page channel has e = absurd (cc)
+no_ring content (Slot.Connection c) listed page channel has e = absurd (omega (arith, has.1))
+no_ring content (Slot.Notification n) listed page channel has e = absurd (omega (arith, has.1))
+no_ring content (Slot.Ring r) listed page channel has e = absurd (omega (arith, has.1))
+no_ring content (Slot.Scheduler c) listed page channel has e = absurd (omega (arith, has.1))
+
+ring_has : (object : Option Object) (channel : ℕ) → object ≡ Some (OutputRing channel) → Contains (page_numbers object) (page_of_channel channel)
+ring_has object channel is = rw is (0, omega arith, refl)
+
+pub ring_page_alike : (o : Objects) (rest : Rest) (id channel at : ℕ) (bytes : List ℕ) → AreApart (state_of o rest) → object_at rest.content o id ≡ Some (OutputRing channel)
+    → IsSameOnPages o (with_bytes rest.content (page_of_channel channel) at bytes) rest.content
+unfolding state_of
+ring_page_alike o rest id channel at bytes apart ring i page offset has stored =
+    let own : Contains (page_numbers (object_at rest.content o i)) page.page = has_number rest.content (slot_at o i) (list_at o.links i) page has in
+    let other : page.page ≢ page_of_channel channel =
+    λ same.
+    let here : Contains (page_numbers (object_at rest.content o i)) (page_of_channel channel) = subst (λ (n : ℕ). Contains (page_numbers (object_at rest.content o i)) n) same own in
+    let id_is : i ≡ id = apart.apart i id (page_of_channel channel) here (ring_has (object_at rest.content o id) channel ring) in
+    no_ring rest.content (slot_at o i) (list_at o.links i) page channel has (ap (λ (j : ℕ). object_at rest.content o j) id_is ∙ ring) in
+    rw (ne_eqb page.page (page_of_channel channel) other) refl

@@ -34,7 +34,8 @@ words_of at count = (at + count - 1) / WORD_BYTES + 1 - at / WORD_BYTES
 -- frames are at home, and it was one operation.
 pub record StoresWords (page first count : ℕ) (old new : Memory) : Type 0 where
   pub words : (at : ℕ) → word_at new at
-      ≡ bursts (word_of_page page first) count (λ k. (word_at new (word_of_page page first + k)).cached) (word_at old) at
+      ≡ bursts (word_of_page page first) count (λ k. (word_at new (word_of_page page first + k)).cached)
+      (word_at old) at
   pub homes : SameHomes old new
   pub counts : new ≡ record old { banks = new.banks; ops = count_up old.ops }
 
@@ -46,7 +47,8 @@ pub record IsStoredAt (objects : Objects) (place : Place) (page : MemPage) : Typ
 -- Whatever the content of pages is, a space has a page at an address, with a right.
 abbrev pub SeesPage : Objects → ℕ → ℕ → ℕ → MemPage → Type 0
 SeesPage objects space right at page = (content : ℕ → ℕ → ℕ) → Some (page_of content page)
-    ≡ option_map (page_at (object_at content objects)) (place_of (regions_of (object_at content objects space)) right at)
+    ≡ option_map (page_at (object_at content objects))
+    (place_of (regions_of (object_at content objects space)) right at)
 
 -- Of the pages that memory objects have, all that aren't fresh have the same content by both.
 abbrev pub IsSameOnPages : Objects → (ℕ → ℕ → ℕ) → (ℕ → ℕ → ℕ) → Type 0

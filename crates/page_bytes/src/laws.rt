@@ -4,7 +4,7 @@ ghost use Rattle.std.specs.Prelude.{◌≡◌, ℕ, ◌+◌, ◌%◌, ◌<◌, �
 ghost use Rattle.sls_base.specs.declared.limits.TheConstants.{PAGE_BYTES, PAGES};
 ghost use Rattle.mem_space.specs.declared.memory.MemPage.{MemPage};
 ghost use Rattle.plain_state.specs.declared.objects.Region.{Region};
-ghost use Rattle.plain_model.specs.Objects.{Object, regions_of};
+ghost use Rattle.plain_model.specs.Objects.{Object, OutputRing, page_of_channel, regions_of};
 ghost use Rattle.plain_model.specs.Memory.{bytes_of_number, covers, is_covered, place_in, places_of, stores_at, with_stores};
 ghost use Rattle.plain_laws.specs.Sound.{AreApart};
 ghost use Rattle.kobj_table.specs.declared.objects.Objects.{Objects};
@@ -14,8 +14,8 @@ ghost use Rattle.page_bytes.specs.Bytes.{with_bytes, IsSameOnPages, IsStoredAt, 
 /// Where each page is of one object alone, bytes that come to stand on a page are the stores of the plain machine to
 /// the addresses at which a region has it.
 pub fn stores_change_content()
-    ensures { (objects : Objects) (rest : Rest) (regions : List Region) (region : Region) (right at : ℕ) (page : MemPage)
-        (bytes : List ℕ) → AreApart (state_of objects rest)
+    ensures { (objects : Objects) (rest : Rest) (regions : List Region) (region : Region) (right at : ℕ)
+        (page : MemPage) (bytes : List ℕ) → AreApart (state_of objects rest)
         → find (covers right at) regions ≡ Some region → at % PAGE_BYTES + length bytes ≤ PAGE_BYTES
         → IsStoredAt objects (place_in at region) page
         → state_of objects (record rest { content = with_bytes rest.content page.page (at % PAGE_BYTES) bytes })
@@ -54,8 +54,8 @@ pub fn stores_at_addresses()
     stores_change_content();
 }
 
-/// Bytes are stored in parts: the first, and then those behind them. Whatever the content of pages is, each page is of one
-/// object alone where it is so by any.
+/// Bytes may be stored in parts: the first of them, and then those behind. Where each page is of one object alone, it
+/// is so whatever the content of pages is.
 pub fn stores_in_parts()
     ensures parts { (objects : ℕ → Option Object) (regions : List Region) (right at : ℕ) (first behind : List ℕ)
         → is_covered regions right at (length first) ≡ true
@@ -66,8 +66,13 @@ pub fn stores_in_parts()
         → AreApart (state_of objects (record rest { content = content })) }
 {}
 
-/// The content of a page that no memory object has, or that is fresh, is no part of the state.
+/// The content of a page that no memory object has, or that is fresh, is no part of the state. Where each page is of
+/// one object alone, the page of an output ring is such a page.
 pub fn other_pages_are_not_seen()
-    ensures { (objects : Objects) (rest : Rest) (content : ℕ → ℕ → ℕ) → IsSameOnPages objects content rest.content
+    ensures pages { (objects : Objects) (rest : Rest) (content : ℕ → ℕ → ℕ) → IsSameOnPages objects content rest.content
         → state_of objects (record rest { content = content }) ≡ state_of objects rest }
+    ensures rings { (objects : Objects) (rest : Rest) (id channel at : ℕ) (bytes : List ℕ)
+        → AreApart (state_of objects rest) → object_at rest.content objects id ≡ Some (OutputRing channel)
+        → state_of objects (record rest { content = with_bytes rest.content (page_of_channel channel) at bytes })
+        ≡ state_of objects rest }
 {}
