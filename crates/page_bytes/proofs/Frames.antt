@@ -10,17 +10,6 @@ use Rattle.pmem_layout.specs.Places.{frame_at, runtime_frame}
 use Rattle.call_readings.specs.Content.{byte_of, is_page_home, Reads}
 use Rattle.page_bytes.specs.Bytes.{overwritten, with_bytes, word_of_page}
 
--- A burst stores the values that its words then have.
-pub bursts_own : (old new : ℕ → Word) (at count : ℕ) (value : ℕ → ℕ) → ((i : ℕ) → new i ≡ bursts at count value old i)
-    → (i : ℕ) → new i ≡ bursts at count (λ k. (new (at + k)).cached) old i
-bursts_own old new at count value each i = elim (cases_Bool (is_within at count i)) [
-  | inl hit ↦
-      let is : new i ≡ record { cached = value (i - at); durable = (old i).durable; marks = 0 } = each i ∙ rw hit refl in
-      let here : at + (i - at) ≡ i = grind (arith, nat_tests, hit) in
-      rw (hit, here) (is ∙ ap (λ (v : ℕ). record { cached = v; durable = (old i).durable; marks = 0 }) (sym (ap (λ (w : Word). w.cached) is)))
-  | inr miss ↦ rw miss (each i ∙ rw miss refl)
-]
-
 module _ (content : ℕ → ℕ → ℕ) (old new : Memory) (page first count at : ℕ) (value : ℕ → ℕ) (bytes : List ℕ)
     (inside : page < PAGES) (home : is_page_home old page ≡ true) (room : first + count ≤ 512) (from : 8 * first ≤ at) (to : at + length bytes ≤ 8 * (first + count))
     (words : (i : ℕ) → word_at new i ≡ bursts (word_of_page page first) count value (word_at old) i) (same : SameHomes old new)
