@@ -13,3 +13,4 @@ pub mod Connections
 pub mod Spaces
 pub mod Taken
 pub mod Ticks
+pub mod Obeyed

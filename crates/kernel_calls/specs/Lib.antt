@@ -3,3 +3,4 @@ pub mod Kernel
 pub mod Does
 pub mod Ticking
 pub mod Pages
+pub mod Instructions

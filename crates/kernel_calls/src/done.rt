@@ -1,6 +1,8 @@
 //! What becomes of the thread that did a call.
 
-ghost use Rattle.std.specs.Prelude.{◌≡◌};
+ghost use Rattle.std.specs.Prelude.{◌≡◌, ◌<◌};
+ghost use Rattle.sls_base.specs.declared.limits.TheConstants.{REGISTERS};
+ghost use Rattle.rv_core.specs.Effect.{with_register};
 ghost use Rattle.plain_state.specs.Effects as plain;
 
 use plain_state::{ANSWER, Goes};
@@ -56,16 +58,37 @@ impl Done {
         }
     }
 
-    /// A thread stops, with its registers and its pc as they are.
-    pub(crate) fn halts(thread: &Thread) -> Done
-        ensures { Tells result (plain.stops thread.now HALTED) }
+    /// A thread stops with a cause, with its registers and its pc as they are.
+    pub(crate) fn stops(thread: &Thread, cause: u8) -> Done
+        ensures { Tells result (plain.stops thread.now cause) }
     {
         Done {
             regs: Regs {
                 pc: thread.pc,
                 x: thread.x,
             },
-            goes: Goes::Stop(HALTED),
+            goes: Goes::Stop(cause),
+            wishes: false,
+        }
+    }
+
+    /// A thread stops by its call to halt.
+    pub(crate) fn halts(thread: &Thread) -> Done
+        ensures { Tells result (plain.stops thread.now HALTED) }
+    {
+        Done::stops(thread, HALTED)
+    }
+
+    /// A register is set, and the thread goes on at an address.
+    pub(crate) fn sets(thread: &Thread, rd: u8, value: u32, pc: u32) -> Done
+        requires { rd < REGISTERS }
+        ensures { Tells result (plain.goes_on (record { pc = pc; x = with_register thread.now.x rd value })) }
+    {
+        let mut regs = Regs { pc, x: thread.x };
+        regs.set(rd, value);
+        Done {
+            regs,
+            goes: Goes::On,
             wishes: false,
         }
     }
@@ -95,7 +118,7 @@ impl Done {
 }
 
 /// The instruction after a thread's own.
-fn next_pc(thread: &Thread) -> u32
+pub(crate) fn next_pc(thread: &Thread) -> u32
     ensures { result ≡ plain.next_pc thread.now }
 {
     thread.pc.wrapping_add(INSTRUCTION_BYTES)

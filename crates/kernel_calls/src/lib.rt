@@ -6,6 +6,7 @@ mod connection_calls;
 mod done;
 mod ecall;
 mod group_calls;
+mod instruction;
 mod lent;
 mod makers;
 mod memory;
