@@ -94,7 +94,6 @@ impl Calls {
     pub(crate) fn obey(&mut self, devices: &Devices, nvm: &Pmem, me: ObjId, thread: &Thread) -> Done
         requires held { HeldOver self.old devices.now nvm.now }
         requires caller { IsCaller self.old.objects me thread.now }
-        requires aligned { thread.now.pc % INSTRUCTION_BYTES ≡ 0 }
         requires home { ShowsHome self.old.objects nvm.now thread.now.space EXECUTE thread.now.pc }
         requires no_store { (rest : Rest) (plan : Plan) → Reads rest.content nvm.now
             → plan_of (state_of self.old.objects rest) thread.now ≡ Some plan

@@ -1,24 +1,28 @@
 //! Who runs on a core, and what becomes of it.
 
-ghost use Rattle.std.specs.Prelude.{◌≡◌, ◌≢◌, ◌<◌, false, length, None, IfSome, IfNone, option_map};
+ghost use Rattle.std.specs.Prelude.{◌≡◌, ◌≢◌, ◌<◌, false, length, Some, None, IfSome, IfNone, option_map};
 ghost use Rattle.link_lists.specs.Lists.{list_at, IsFree};
 ghost use Rattle.ipc_note.specs.declared.lists.TheConstants.{RUN_QUEUE};
 ghost use Rattle.plain_state.specs.Worlds.{World};
-ghost use Rattle.plain_state.specs.Calls.{call_named};
-ghost use Rattle.plain_state.specs.CallEffects.{ecall};
-ghost use Rattle.call_readings.specs.Kernel.{world_of, IsCounted, IsAttached};
+ghost use Rattle.plain_state.specs.Instructions.{instruction};
+ghost use Rattle.sls_base.specs.declared.rights.TheConstants.{EXECUTE};
+ghost use Rattle.call_readings.specs.Content.{Reads};
+ghost use Rattle.call_readings.specs.Kernel.{world_of, IsCounted, IsOfWorld};
 ghost use Rattle.sls_base.specs.declared.thread.Thread.{Thread as ThreadRecord};
 ghost use Rattle.plain_state.specs.Ticks as plain;
 ghost use Rattle.kobj_table.specs.Slots.{cores_of, has_list, occupant_of};
 ghost use Rattle.kobj_table.specs.Objects.{Rest, slot_at, state_of, HasNoStrays};
-ghost use Rattle.kernel_calls.specs.Kernel.{Held, HeldWith};
-ghost use Rattle.kernel_calls.specs.Callers.{IsCaller, moves_bytes};
+ghost use Rattle.kernel_calls.specs.Kernel.{Held};
+ghost use Rattle.kernel_calls.specs.Callers.{IsCaller};
+ghost use Rattle.kernel_calls.specs.Instructions.{HeldOver, ShowsHome, StoresNothing, plan_of};
 ghost use Rattle.kernel_calls.specs.Ticking.{Takes, Settles};
+ghost use Rattle.rv_core.specs.declared.registers.Plan.{Plan};
 
 use crate::calls::Calls;
 use crate::done::Done;
 use call_readings::Devices;
 use plain_state::Goes;
+use pmem_model::Pmem;
 use sls_base::{CORE_SLICE, CORES, CoreNo, OBJECTS, ObjId, SCHEDULER, Thread, ThreadState};
 
 /// What becomes of a thread with so much left of its slice.
@@ -80,36 +84,40 @@ impl Calls {
         }
     }
 
-    /// Lets a thread that a core has taken do its call, and puts it down. It says whether the thread wishes for a
-    /// checkpoint.
-    pub(crate) fn run_call(
+    /// Lets a thread that a core has taken do its instruction, which stores nothing, and puts it down. It says whether
+    /// the thread wishes for a checkpoint.
+    pub(crate) fn run_instruction(
         &mut self,
         devices: &Devices,
+        nvm: &Pmem,
         core: CoreNo,
         next: (ObjId, u8),
         thread: &Thread,
     ) -> bool
         requires core { core < CORES }
-        requires held { HeldWith self.old devices.now }
+        requires held { HeldOver self.old devices.now nvm.now }
         requires caller { IsCaller self.old.objects next.0 thread.now }
-        requires no_bytes { moves_bytes (call_named thread.now) ≡ false }
-        ensures state { (w : World) (rest : Rest) → IsCounted self.old.numbers (world_of self.old.objects rest w)
-            → IsAttached self.old.objects devices.now (world_of self.old.objects rest w)
+        requires home { ShowsHome self.old.objects nvm.now thread.now.space EXECUTE thread.now.pc }
+        requires no_store { (rest : Rest) (plan : Plan) → Reads rest.content nvm.now
+            → plan_of (state_of self.old.objects rest) thread.now ≡ Some plan
+            → StoresNothing self.old.objects nvm.now thread.now plan }
+        ensures state { (w : World) (rest : Rest)
+            → IsOfWorld self.old.objects self.old.numbers devices.now nvm.now rest w
             → state_of self.new.objects rest ≡ plain.state_of_effect (state_of self.old.objects rest) core
             (record {
               occupant = record { thread = next.0; slice = next.1 };
               queue = list_at self.old.objects.links RUN_QUEUE;
-            }) (ecall (world_of self.old.objects rest w) next.0 thread.now) }
-        ensures wishes { (w : World) (rest : Rest) → IsCounted self.old.numbers (world_of self.old.objects rest w)
-            → IsAttached self.old.objects devices.now (world_of self.old.objects rest w)
-            → result ≡ (ecall (world_of self.old.objects rest w) next.0 thread.now).wishes }
+            }) (instruction (world_of self.old.objects rest w) next.0 thread.now) }
+        ensures wishes { (w : World) (rest : Rest)
+            → IsOfWorld self.old.objects self.old.numbers devices.now nvm.now rest w
+            → result ≡ (instruction (world_of self.old.objects rest w) next.0 thread.now).wishes }
         ensures strays { HasNoStrays self.new.objects }
-        ensures counted { (w : World) (rest : Rest) → IsCounted self.old.numbers (world_of self.old.objects rest w)
-            → IsAttached self.old.objects devices.now (world_of self.old.objects rest w)
+        ensures counted { (w : World) (rest : Rest)
+            → IsOfWorld self.old.objects self.old.numbers devices.now nvm.now rest w
             → IsCounted self.new.numbers (world_of self.new.objects rest w) }
     {
         let (id, slice) = next;
-        let done = self.ecall(devices, id, thread);
+        let done = self.obey(devices, nvm, id, thread);
         self.settle(core, id, slice.saturating_sub(1), thread, &done);
         done.wishes
     }

@@ -1,4 +1,4 @@
-use Rattle.std.proofs.Common.{◌∙◌, sym, ap, subst, ℕ, Some}
+use Rattle.std.proofs.Common.{◌∙◌, refl, sym, ap, subst, ℕ, Some}
 use Rattle.std.specs.Prelude.{Option, option_map}
 use Rattle.sls_base.specs.declared.causes.TheConstants.{NO_ACCESS, ILLEGAL_WORD}
 use Rattle.rv_table.specs.declared.Instr.{Instr}
@@ -59,3 +59,7 @@ returns-clause-does c w rest found =
     ∙ ap (λ (p : Plan). with_fetch (fetched world.now thread) (carried_out world c.args.me thread p)) (sym c.plan.ensures.effect) in
     subst (λ (e : Effect). Does k c.carry_out_plan.new.self rest w e c.carry_out_plan.result) (sym is)
     (with_places (fetched world.now thread) (c.carry_out_plan.ensures.does w rest found))
+
+pub fetch-requires-clause-aligned : goal.fetch-requires-clause-aligned
+unfolding state_of
+fetch-requires-clause-aligned c = (c.requires.held.found.threads c.args.me c.args.thread.now (rw c.requires.caller.there refl)).aligned
