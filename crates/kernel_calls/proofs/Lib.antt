@@ -14,3 +14,4 @@ pub mod Spaces
 pub mod Taken
 pub mod Ticks
 pub mod Obeyed
+pub mod Begun

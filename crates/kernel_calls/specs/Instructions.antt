@@ -1,5 +1,5 @@
 -- One instruction of a thread, on the running objects and the bytes of pages.
-use Rattle.std.specs.Prelude.{◌≡◌, ℕ, false, if◌then◌else◌, Option, None, option_map}
+use Rattle.std.specs.Prelude.{◌≡◌, Some, ℕ, false, if◌then◌else◌, Option, None, option_map}
 use Rattle.sls_base.specs.declared.limits.TheConstants.{INSTRUCTION_BYTES}
 use Rattle.sls_base.specs.declared.rights.TheConstants.{READ, EXECUTE}
 use Rattle.sls_base.specs.declared.thread.Thread.{Thread as ThreadRecord}
@@ -15,8 +15,9 @@ use Rattle.plain_state.specs.Memory.{is_covered}
 use Rattle.plain_state.specs.Effects.{regs_of}
 use Rattle.plain_state.specs.Instructions.{seen_by, fetched, value_at}
 use Rattle.kobj_table.specs.declared.objects.Objects.{Objects}
-use Rattle.kobj_table.specs.Objects.{object_at}
+use Rattle.kobj_table.specs.Objects.{Rest, object_at, state_of}
 use Rattle.call_readings.specs.declared.devices.Devices.{Devices}
+use Rattle.call_readings.specs.Content.{Reads}
 use Rattle.call_readings.specs.Kernel.{IsOfWorld}
 use Rattle.call_readings.specs.Need.{IsAtHome, page_seen}
 use Rattle.kernel_calls.specs.declared.calls.Calls.{Calls}
@@ -47,3 +48,9 @@ StoresNothing o m thread (Load op rd at) = ShowsHome o m thread.space READ at
 StoresNothing o m thread (Store op at value) = ⊥
 StoresNothing o m thread Call = moves_bytes (call_named thread) ≡ false
 StoresNothing o m thread (Stop cause) = Unit {0}
+
+-- A thread's instruction is fetched from a page that is at home, and what it comes to stores nothing.
+pub record MayRun (o : Objects) (m : Memory) (thread : ThreadRecord) : Type 0 where
+  pub home : ShowsHome o m thread.space EXECUTE thread.pc
+  pub no_store : (rest : Rest) (plan : Plan) → Reads rest.content m → plan_of (state_of o rest) thread ≡ Some plan
+      → StoresNothing o m thread plan

@@ -1,21 +1,19 @@
 //! The instruction at a thread's pc, and what becomes of the thread.
 
-ghost use Rattle.std.specs.Prelude.{◌≡◌, ◌%◌, ◌<◌, Some, option_map};
+ghost use Rattle.std.specs.Prelude.{◌≡◌, ◌%◌, ◌<◌};
 ghost use Rattle.sls_base.specs.declared.limits.TheConstants.{INSTRUCTION_BYTES, REGISTERS};
 ghost use Rattle.sls_base.specs.declared.rights.TheConstants.{READ, EXECUTE};
 ghost use Rattle.rv_table.specs.Table.{IsOneOf, load_ops};
-ghost use Rattle.rv_table.specs.Decoded.{decoded};
 ghost use Rattle.rv_core.specs.Effect.{size_of};
 ghost use Rattle.rv_core.specs.Ranges.{IsPlan};
 ghost use Rattle.plain_state.specs.Worlds.{World};
-ghost use Rattle.plain_state.specs.Effects.{next_pc as next_of, regs_of};
 ghost use Rattle.plain_state.specs.Instructions as plain;
-ghost use Rattle.kobj_table.specs.Objects.{Rest, object_at, state_of};
+ghost use Rattle.kobj_table.specs.Objects.{Rest, state_of};
 ghost use Rattle.call_readings.specs.Content.{Reads, number_seen};
 ghost use Rattle.call_readings.specs.Kernel.{world_of, IsOfWorld};
 ghost use Rattle.kernel_calls.specs.Callers.{IsCaller};
 ghost use Rattle.kernel_calls.specs.Does.{Does, Keeps, Tells};
-ghost use Rattle.kernel_calls.specs.Instructions.{HeldOver, ShowsHome, StoresNothing, plan_of};
+ghost use Rattle.kernel_calls.specs.Instructions.{HeldOver, MayRun, ShowsHome, StoresNothing};
 
 use crate::calls::Calls;
 use crate::done::{Done, next_pc};
@@ -73,7 +71,8 @@ impl Calls {
         requires caller { IsCaller self.old.objects me thread.now }
         requires in_range { IsPlan plan }
         requires no_store { StoresNothing self.old.objects nvm.now thread.now plan }
-        ensures does { (w : World) (rest : Rest) → IsOfWorld self.old.objects self.old.numbers devices.now nvm.now rest w
+        ensures does { (w : World) (rest : Rest)
+            → IsOfWorld self.old.objects self.old.numbers devices.now nvm.now rest w
             → Does self.old self.new rest w
             (plain.carried_out (world_of self.old.objects rest w) me thread.now plan) result }
         ensures keeps { Keeps self.old self.new me result }
@@ -94,11 +93,9 @@ impl Calls {
     pub(crate) fn obey(&mut self, devices: &Devices, nvm: &Pmem, me: ObjId, thread: &Thread) -> Done
         requires held { HeldOver self.old devices.now nvm.now }
         requires caller { IsCaller self.old.objects me thread.now }
-        requires home { ShowsHome self.old.objects nvm.now thread.now.space EXECUTE thread.now.pc }
-        requires no_store { (rest : Rest) (plan : Plan) → Reads rest.content nvm.now
-            → plan_of (state_of self.old.objects rest) thread.now ≡ Some plan
-            → StoresNothing self.old.objects nvm.now thread.now plan }
-        ensures does { (w : World) (rest : Rest) → IsOfWorld self.old.objects self.old.numbers devices.now nvm.now rest w
+        requires may_run { MayRun self.old.objects nvm.now thread.now }
+        ensures does { (w : World) (rest : Rest)
+            → IsOfWorld self.old.objects self.old.numbers devices.now nvm.now rest w
             → Does self.old self.new rest w
             (plain.instruction (world_of self.old.objects rest w) me thread.now) result }
         ensures keeps { Keeps self.old self.new me result }

@@ -5,23 +5,22 @@ ghost use Rattle.link_lists.specs.Lists.{list_at, IsFree};
 ghost use Rattle.ipc_note.specs.declared.lists.TheConstants.{RUN_QUEUE};
 ghost use Rattle.plain_state.specs.Worlds.{World};
 ghost use Rattle.plain_state.specs.Instructions.{instruction};
-ghost use Rattle.sls_base.specs.declared.rights.TheConstants.{EXECUTE};
-ghost use Rattle.call_readings.specs.Content.{Reads};
 ghost use Rattle.call_readings.specs.Kernel.{world_of, IsCounted, IsOfWorld};
 ghost use Rattle.sls_base.specs.declared.thread.Thread.{Thread as ThreadRecord};
+ghost use Rattle.plain_state.specs.States.{thread_at};
 ghost use Rattle.plain_state.specs.Ticks as plain;
+ghost use Rattle.plain_state.specs.Ticks.{Chosen};
 ghost use Rattle.kobj_table.specs.Slots.{cores_of, has_list, occupant_of};
 ghost use Rattle.kobj_table.specs.Objects.{Rest, slot_at, state_of, HasNoStrays};
 ghost use Rattle.kernel_calls.specs.Kernel.{Held};
 ghost use Rattle.kernel_calls.specs.Callers.{IsCaller};
-ghost use Rattle.kernel_calls.specs.Instructions.{HeldOver, ShowsHome, StoresNothing, plan_of};
+ghost use Rattle.kernel_calls.specs.Instructions.{HeldOver, MayRun};
 ghost use Rattle.kernel_calls.specs.Ticking.{Takes, Settles};
-ghost use Rattle.rv_core.specs.declared.registers.Plan.{Plan};
 
 use crate::calls::Calls;
 use crate::done::Done;
 use call_readings::Devices;
-use plain_state::Goes;
+use plain_state::{Goes, Reply};
 use pmem_model::Pmem;
 use sls_base::{CORE_SLICE, CORES, CoreNo, OBJECTS, ObjId, SCHEDULER, Thread, ThreadState};
 
@@ -84,6 +83,40 @@ impl Calls {
         }
     }
 
+    /// A tick of a core: it takes a thread where it has none, the thread does one instruction, which stores nothing, and
+    /// its slice falls by one. A core that has no thread to run is idle. The reply says so, and whether the thread wishes
+    /// for a checkpoint.
+    pub fn tick(&mut self, devices: &Devices, nvm: &Pmem, core: CoreNo) -> Reply
+        requires below { core < CORES }
+        requires core { core < length (cores_of (slot_at self.old.objects SCHEDULER)) }
+        requires held { HeldOver self.old devices.now nvm.now }
+        requires may_run { (rest : Rest) (c : Chosen) → plain.chosen (state_of self.old.objects rest) core ≡ Some c
+            → MayRun self.old.objects nvm.now (thread_at (state_of self.old.objects rest) c.occupant.thread) }
+        ensures state { (w : World) (rest : Rest)
+            → IsOfWorld self.old.objects self.old.numbers devices.now nvm.now rest w
+            → state_of self.new.objects rest ≡ (plain.tick (world_of self.old.objects rest w) core).now }
+        ensures reply { (w : World) (rest : Rest)
+            → IsOfWorld self.old.objects self.old.numbers devices.now nvm.now rest w
+            → result ≡ plain.tick_reply (world_of self.old.objects rest w) core }
+        ensures counted { (w : World) (rest : Rest)
+            → IsOfWorld self.old.objects self.old.numbers devices.now nvm.now rest w
+            → IsCounted self.new.numbers (world_of self.new.objects rest w) }
+        ensures strays { HasNoStrays self.new.objects }
+    {
+        // Their contracts say that neither objects nor what an instruction does depend on the run queue.
+        kobj_table::lists_alone();
+        plain_laws::ticks::effect_depends_on_little();
+        let Some(next) = self.take_next(core) else {
+            return Reply::Idle;
+        };
+        let thread = self.objects.thread_or_zeros(next.0);
+        if self.run_instruction(devices, nvm, core, next, &thread) {
+            Reply::Wished
+        } else {
+            Reply::Retired
+        }
+    }
+
     /// Lets a thread that a core has taken do its instruction, which stores nothing, and puts it down. It says whether
     /// the thread wishes for a checkpoint.
     pub(crate) fn run_instruction(
@@ -97,10 +130,7 @@ impl Calls {
         requires core { core < CORES }
         requires held { HeldOver self.old devices.now nvm.now }
         requires caller { IsCaller self.old.objects next.0 thread.now }
-        requires home { ShowsHome self.old.objects nvm.now thread.now.space EXECUTE thread.now.pc }
-        requires no_store { (rest : Rest) (plan : Plan) → Reads rest.content nvm.now
-            → plan_of (state_of self.old.objects rest) thread.now ≡ Some plan
-            → StoresNothing self.old.objects nvm.now thread.now plan }
+        requires may_run { MayRun self.old.objects nvm.now thread.now }
         ensures state { (w : World) (rest : Rest)
             → IsOfWorld self.old.objects self.old.numbers devices.now nvm.now rest w
             → state_of self.new.objects rest ≡ plain.state_of_effect (state_of self.old.objects rest) core

@@ -44,7 +44,7 @@ carry_out_plan-requires-clause-no_store c =
     let is = plan_fetched (state_of c.args.self.now.objects rest) thread c.in-Some.word seen
     ∙ ap (λ (i : Option Instr). option_map (λ instr. effect instr (regs_of thread)) i) some
     ∙ ap (λ (p : Plan). Some p) (sym c.plan.ensures.effect) in
-    c.requires.no_store rest c.plan.result reads is
+    c.requires.may_run.no_store rest c.plan.result reads is
 
 pub returns-clause-does : goal.returns-clause-does
 unfolding world_of

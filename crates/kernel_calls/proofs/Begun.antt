@@ -1,0 +1,219 @@
+-- What was so of the running kernel is so when a thread was taken.
+use Rattle.std.specs.Prelude.{◌⊎◌, ◌≡◌, ◌≢◌, ℕ, Bool, true, if◌then◌else◌, List, [], ◌∷◌, drop, Option, Some, None}
+use Rattle.std.proofs.Common.{refl, ap, sym, ◌∙◌, subst, inl, inr}
+use mathlib.Core.Path.{fun_ext}
+use Rattle.sls_base.specs.declared.fixed.TheConstants.{SCHEDULER}
+use Rattle.sls_base.specs.declared.thread.Thread.{Thread as ThreadRecord}
+use Rattle.sls_base.specs.declared.thread.ThreadState.{ThreadState}
+use Rattle.sls_base.specs.declared.thread.ThreadState.TheVariants.{Ready, Running, Waiting, Calling, Served, Serving, Stopped}
+use Rattle.ipc_note.specs.declared.lists.TheConstants.{RUN_QUEUE}
+use Rattle.link_lists.specs.Lists.{list_at}
+use Rattle.rv_core.specs.declared.registers.Plan.{Plan}
+use Rattle.rv_core.specs.declared.registers.Plan.TheVariants.{Set, Load, Store, Call, Stop}
+use Rattle.pmem_model.specs.Memory.{Memory}
+use Rattle.plain_state.specs.declared.label.Reply.{Reply}
+use Rattle.plain_state.specs.declared.label.Reply.TheVariants.{Retired, Wished}
+use Rattle.plain_state.specs.declared.objects.Occupant.{Occupant}
+use Rattle.plain_state.specs.Objects.{Object, regions_of}
+use Rattle.plain_state.specs.States.{State, thread_at}
+use Rattle.plain_state.specs.Worlds.{World, has_page, put_count}
+use Rattle.plain_state.specs.Effects.{Effect}
+use Rattle.plain_state.specs.Instructions.{instruction}
+use Rattle.plain_state.specs.Ticks.{Chosen, chosen, own_or_front, state_of_effect, effect_for, ticked, tick, reply_for, tick_reply}
+use Rattle.plain_laws.specs.Bounds.{HasThreads, IsThread, IsStateOf}
+use Rattle.plain_laws.specs.Ticks.{IsAlike}
+use Rattle.kobj_table.specs.declared.objects.Objects.{Objects}
+use Rattle.kobj_table.specs.declared.slot.Slot.{Slot}
+use Rattle.kobj_table.specs.Slots.{is_scheduler}
+use Rattle.kobj_table.specs.Objects.{Rest, slot_at, object_at, state_of, state_with_queue, ListsAlone}
+use Rattle.call_readings.specs.declared.devices.Devices.{Devices}
+use Rattle.call_readings.specs.Kernel.{world_of, CountsEntries, IsAttached, IsOfWorld}
+use Rattle.call_readings.specs.Need.{IsAtHome, page_seen}
+use Rattle.kernel_calls.specs.declared.calls.Calls.{Calls}
+use Rattle.kernel_calls.specs.Kernel.{Held, IsSound}
+use Rattle.kernel_calls.specs.Callers.{IsCaller}
+use Rattle.kernel_calls.specs.Ticking.{Takes}
+use Rattle.kernel_calls.specs.Instructions.{HeldOver, MayRun, ShowsHome, StoresNothing}
+use Rattle.kernel_calls.proofs.Objects.{told}
+use Rattle.kernel_calls.proofs.Numbers.{counted_kept}
+use Rattle.kernel_calls.proofs.Queues.{IsItsSlot, queue_alone, not_the_queue}
+use Rattle.kernel_calls.proofs.Ticks.{sound_left}
+
+-- The queue.
+
+taken_queue : (own : Option Occupant) (queue : List ℕ) (c : Chosen) → own_or_front own queue ≡ Some c → (c.queue ≡ queue) ⊎ (c.queue ≡ drop 1 queue)
+taken_queue (Some occupant) queue c e = inl (cc)
+taken_queue None [] c e = absurd (cc)
+taken_queue None (id ∷ queue) c e = inr (cc)
+
+sound_taken : (s : State) (own : Option Occupant) (c : Chosen) → own_or_front own s.queue ≡ Some c → IsSound s → IsSound (state_with_queue s c.queue)
+sound_taken s own c e sound =
+    elim (taken_queue own s.queue c e) [
+      | inl same ↦ subst (λ (q : List ℕ). IsSound (state_with_queue s q)) (sym same) sound
+      | inr left ↦ subst (λ (q : List ℕ). IsSound (state_with_queue s q)) (sym left) (sound_left s sound)
+    ]
+
+-- Another queue changes nothing of a thread, of devices, or of what an instruction does.
+
+state_kept : (s : State) (queue : List ℕ) (state : ThreadState) → IsStateOf s state → IsStateOf (state_with_queue s queue) state
+state_kept s queue Ready is = is
+state_kept s queue (Running core) is = is
+state_kept s queue (Waiting id) is = is
+state_kept s queue (Calling id) is = is
+state_kept s queue (Served id) is = is
+state_kept s queue (Serving id) is = is
+state_kept s queue (Stopped cause) is = is
+
+threads_kept : (s : State) (queue : List ℕ) → HasThreads s → HasThreads (state_with_queue s queue)
+threads_kept s queue threads i thread is =
+    let t = threads i thread is in
+    record { pc = t.pc; aligned = t.aligned; count = t.count; each = t.each; zero = t.zero; state = state_kept s queue thread.state t.state }
+
+entries_kept : (slot : Slot) (v w : World) → ((channel : ℕ) → put_count v channel ≡ put_count w channel) → CountsEntries slot w → CountsEntries slot v
+entries_kept Slot.Empty v w same is = is
+entries_kept (Slot.Group group) v w same is = is
+entries_kept (Slot.Thread thread) v w same is = is
+entries_kept (Slot.Space space) v w same is = is
+entries_kept (Slot.Memory memory) v w same is = is
+entries_kept (Slot.Connection connection) v w same is = is
+entries_kept (Slot.Notification note) v w same is = is
+entries_kept (Slot.Ring ring) v w same is = (is.0, λ output. is.1 output ∙ sym (same ring.channel))
+entries_kept (Slot.Scheduler cores) v w same is = is
+
+pub effect_kept : (s : State) (queue : List ℕ) (core : ℕ) (c : Chosen) (e : Effect) → state_of_effect (state_with_queue s queue) core c e ≡ state_of_effect s core c e
+unfolding state_of_effect
+effect_kept s queue core c e = refl
+
+abbrev pub StateAlone : Type 0
+StateAlone = (old new : Objects) (rest : Rest) → ListsAlone old new → state_of new rest ≡ state_with_queue (state_of old rest) (list_at new.links RUN_QUEUE)
+
+abbrev pub DependsOnLittle : Type 0
+DependsOnLittle = (w v : World) (id : ℕ) (thread : ThreadRecord) → IsAlike w v → instruction w id thread ≡ instruction v id thread
+
+module _ (o m : Objects) (slots : m.slots ≡ o.slots) (lists : (i : ℕ) → i ≢ RUN_QUEUE → list_at m.links i ≡ list_at o.links i) where
+  same_slot : (i : ℕ) → slot_at o i ≡ slot_at m i
+  same_slot i = rw slots refl
+
+  devices_kept : (devices : Devices) (rest : Rest) (w : World) → IsAttached o devices (world_of o rest w) → IsAttached m devices (world_of m rest w)
+  unfolding world_of state_of
+  devices_kept devices rest w a = record {
+    rings = λ id. subst (λ (slot : Slot). CountsEntries slot (world_of m rest w)) (same_slot id)
+        (entries_kept (slot_at o id) (world_of m rest w) (world_of o rest w) (λ channel. refl) (a.rings id));
+    accepted = a.accepted;
+    input = a.input;
+  }
+
+  module _ (is_scheduler_there : is_scheduler (slot_at o SCHEDULER) ≡ true) where
+    alone : ListsAlone o m
+    alone = record {
+      slots = λ i. rw slots refl;
+      lists = λ i has. lists i (not_the_queue o i is_scheduler_there has);
+    }
+
+    pub state_taken : StateAlone → (rest : Rest) → state_of m rest ≡ state_with_queue (state_of o rest) (list_at m.links RUN_QUEUE)
+    state_taken law rest = law o m rest alone
+
+    same_objects : IsItsSlot → (content : ℕ → ℕ → ℕ) → object_at content m ≡ object_at content o
+    same_objects law content = fun_ext (queue_alone law o m content slots lists is_scheduler_there)
+
+    pub instruction_taken : StateAlone → DependsOnLittle → (rest : Rest) (w : World) (id : ℕ) (thread : ThreadRecord) →
+        instruction (world_of m rest w) id thread ≡ instruction (world_of o rest w) id thread
+    unfolding world_of has_page
+    instruction_taken law little rest w id thread =
+        let alike : IsAlike (record w { now = state_of m rest }) (record w { now = state_of o rest }) =
+        subst (λ (s : State). IsAlike (record w { now = s }) (record w { now = state_of o rest })) (sym (state_taken law rest))
+        (record { objects = refl; inputs = refl; used_objects = λ i. refl; used_pages = λ page. refl; put = λ channel. refl; accepted = λ channel. refl }) in
+        little (world_of m rest w) (world_of o rest w) id thread alike
+
+    home_taken : IsItsSlot → (memory : Memory) (space right at : ℕ) → ShowsHome o memory space right at → ShowsHome m memory space right at
+    home_taken law memory space right at home content =
+        subst (λ (objects : ℕ → Option Object). IsAtHome memory (page_seen objects (regions_of (objects space)) right at)) (sym (same_objects law content)) (home content)
+
+    plan_taken : IsItsSlot → (memory : Memory) (thread : ThreadRecord) (plan : Plan) → StoresNothing o memory thread plan → StoresNothing m memory thread plan
+    plan_taken law memory thread (Set rd value pc) is = is
+    plan_taken law memory thread (Load op rd at) is = home_taken law memory thread.space _ at is
+    plan_taken law memory thread (Store op at value) is = is
+    plan_taken law memory thread Call is = is
+    plan_taken law memory thread (Stop cause) is = is
+
+    pub may_run_taken : IsItsSlot → StateAlone → (memory : Memory) (thread : ThreadRecord) → MayRun o memory thread → MayRun m memory thread
+    may_run_taken law alone_law memory thread may = record {
+      home = home_taken law memory thread.space _ thread.pc may.home;
+      no_store = λ rest plan reads is. plan_taken law memory thread plan (may.no_store rest plan reads (rw (state_taken alone_law rest) at is));
+    }
+
+-- The kernel is the same world's but for the queue, when a thread was taken.
+pub world_taken : IsItsSlot → StateAlone → (k n : Calls) (devices : Devices) (memory : Memory) (core id slice : ℕ) → Takes k.objects n.objects core id slice → n.numbers ≡ k.numbers →
+    is_scheduler (slot_at k.objects SCHEDULER) ≡ true → (rest : Rest) (w : World) →
+    IsOfWorld k.objects k.numbers devices memory rest w → IsOfWorld n.objects n.numbers devices memory rest w
+world_taken law alone_law k n devices memory core id slice takes numbers scheduler rest w found = record {
+  counted = rw numbers (counted_kept k.numbers k.objects n.objects rest w
+      (λ i. ap told (queue_alone law k.objects n.objects rest.content takes.slots takes.lists scheduler i)) found.counted);
+  attached = devices_kept k.objects n.objects takes.slots takes.lists devices rest w found.attached;
+  content = found.content;
+  threads = subst (λ (s : State). HasThreads s) (sym (state_taken k.objects n.objects takes.slots takes.lists scheduler alone_law rest))
+      (threads_kept (state_of k.objects rest) (list_at n.objects.links RUN_QUEUE) found.threads);
+}
+
+pub held_taken : IsItsSlot → StateAlone → (k n : Calls) (devices : Devices) (memory : Memory) (core id slice : ℕ) → Takes k.objects n.objects core id slice → n.numbers ≡ k.numbers →
+    Held n → HeldOver k devices memory → HeldOver n devices memory
+held_taken law alone_law k n devices memory core id slice takes numbers left h =
+    let found = world_taken law alone_law k n devices memory core id slice takes numbers h.held.scheduler h.held.rest h.held.world h.found in
+    record {
+      held = record {
+        world = h.held.world;
+        rest = h.held.rest;
+        counted = found.counted;
+        sound = subst (λ (s : State). IsSound s) (sym (state_taken k.objects n.objects takes.slots takes.lists h.held.scheduler alone_law h.held.rest))
+            (sound_by (takes.chosen_is h.held.rest));
+        scheduler = left.scheduler;
+        strays = left.strays;
+      };
+      found = found;
+    } where
+      sound_by : chosen (state_of k.objects h.held.rest) core ≡ Some (record { occupant = record { thread = id; slice = slice }; queue = list_at n.objects.links RUN_QUEUE }) →
+          IsSound (state_with_queue (state_of k.objects h.held.rest) (list_at n.objects.links RUN_QUEUE))
+      sound_by e = sound_taken (state_of k.objects h.held.rest) _ _ e h.held.sound
+
+-- The tick.
+
+module _ (o m : Objects) (core id slice : ℕ) (takes : Takes o m core id slice) (scheduler : is_scheduler (slot_at o SCHEDULER) ≡ true) (law : StateAlone) (rest : Rest) (thread : ThreadRecord)
+    (is : thread ≡ thread_at (state_of m rest) id) where
+  taken : Chosen
+  taken = record { occupant = record { thread = id; slice = slice }; queue = list_at m.links RUN_QUEUE }
+
+  same : state_of m rest ≡ state_with_queue (state_of o rest) (list_at m.links RUN_QUEUE)
+  same = state_taken o m takes.slots takes.lists scheduler law rest
+
+  pub thread_taken : thread ≡ thread_at (state_of o rest) id
+  thread_taken = is ∙ ap (λ (s : State). thread_at s id) same
+
+  module _ (little : DependsOnLittle) (w : World) where
+    effect_taken : instruction (world_of m rest w) id thread ≡ instruction (world_of o rest w) id (thread_at (state_of o rest) id)
+    effect_taken =
+        instruction_taken o m takes.slots takes.lists scheduler law little rest w id thread ∙ ap (λ (t : ThreadRecord). instruction (world_of o rest w) id t) thread_taken
+
+    pub tick_state : (n : Objects) →
+        state_of n rest ≡ state_of_effect (state_of m rest) core (record { occupant = record { thread = id; slice = slice }; queue = list_at m.links RUN_QUEUE }) (instruction (world_of m rest w) id thread) →
+        state_of n rest ≡ (tick (world_of o rest w) core).now
+    unfolding world_of taken
+    tick_state n e =
+        let s = state_of o rest in
+        let c : Chosen = record { occupant = record { thread = id; slice = slice }; queue = list_at m.links RUN_QUEUE } in
+        e ∙ ap (λ (x : State). state_of_effect x core c (instruction (world_of m rest w) id thread)) same
+        ∙ effect_kept s (list_at m.links RUN_QUEUE) core c (instruction (world_of m rest w) id thread)
+        ∙ ap (λ (x : Effect). state_of_effect s core c x) effect_taken
+        ∙ sym (ap (λ (x : Option Chosen). (ticked (world_of o rest w) core x).now) (takes.chosen_is rest))
+
+    pub tick_replies : (wishes : Bool) → wishes ≡ (instruction (world_of m rest w) id thread).wishes → (if wishes then Wished else Retired) ≡ tick_reply (world_of o rest w) core
+    unfolding world_of
+    tick_replies wishes e =
+        ap (λ (b : Bool). if b then Wished else Retired) (e ∙ ap (λ (x : Effect). x.wishes) effect_taken)
+        ∙ sym (ap (λ (x : Option Chosen). reply_for (world_of o rest w) x) (takes.chosen_is rest))
+
+-- the thread that was taken is the caller
+pub caller_taken : (m : Objects) (id : ℕ) (thread caller : ThreadRecord) (rest : Rest) → thread ≡ thread_at (state_of m rest) id → IsCaller m id caller → IsCaller m id thread
+unfolding state_of
+caller_taken m id thread caller rest is stands =
+    let same : thread_at (state_of m rest) id ≡ caller = rw stands.there refl in
+    subst (λ (t : ThreadRecord). IsCaller m id t) (sym (is ∙ same)) stands
