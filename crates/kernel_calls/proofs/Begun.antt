@@ -11,7 +11,6 @@ use Rattle.link_lists.specs.Lists.{list_at}
 use Rattle.rv_core.specs.declared.registers.Plan.{Plan}
 use Rattle.rv_core.specs.declared.registers.Plan.TheVariants.{Set, Load, Store, Call, Stop}
 use Rattle.pmem_model.specs.Memory.{Memory}
-use Rattle.plain_state.specs.declared.label.Reply.{Reply}
 use Rattle.plain_state.specs.declared.label.Reply.TheVariants.{Retired, Wished}
 use Rattle.plain_state.specs.declared.objects.Occupant.{Occupant}
 use Rattle.plain_state.specs.Objects.{Object, regions_of}
@@ -19,8 +18,8 @@ use Rattle.plain_state.specs.States.{State, thread_at}
 use Rattle.plain_state.specs.Worlds.{World, has_page, put_count}
 use Rattle.plain_state.specs.Effects.{Effect}
 use Rattle.plain_state.specs.Instructions.{instruction}
-use Rattle.plain_state.specs.Ticks.{Chosen, chosen, own_or_front, state_of_effect, effect_for, ticked, tick, reply_for, tick_reply}
-use Rattle.plain_laws.specs.Bounds.{HasThreads, IsThread, IsStateOf}
+use Rattle.plain_state.specs.Ticks.{Chosen, chosen, own_or_front, state_of_effect, ticked, tick, reply_for, tick_reply}
+use Rattle.plain_laws.specs.Bounds.{HasThreads, IsStateOf}
 use Rattle.plain_laws.specs.Ticks.{IsAlike}
 use Rattle.kobj_table.specs.declared.objects.Objects.{Objects}
 use Rattle.kobj_table.specs.declared.slot.Slot.{Slot}

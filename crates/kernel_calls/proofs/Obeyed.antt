@@ -1,6 +1,6 @@
 -- What an instruction of a thread comes to.
 use Rattle.std.specs.Prelude.{◌≡◌, ℕ, Bool, true, false, if◌then◌else◌, List, Option, Some, None, option_map}
-use Rattle.std.proofs.Common.{refl, ap, sym, ◌∙◌}
+use Rattle.std.proofs.Common.{refl, ap}
 use Rattle.sls_base.specs.declared.limits.TheConstants.{INSTRUCTION_BYTES}
 use Rattle.sls_base.specs.declared.rights.TheConstants.{READ, EXECUTE}
 use Rattle.sls_base.specs.declared.causes.TheConstants.{NO_ACCESS}

@@ -1,6 +1,5 @@
-use Rattle.std.proofs.Common.{◌∙◌, refl, sym, ap, subst, ℕ, Some}
+use Rattle.std.proofs.Common.{◌∙◌, refl, sym, ap, subst, Some}
 use Rattle.std.specs.Prelude.{Option, option_map}
-use Rattle.sls_base.specs.declared.causes.TheConstants.{NO_ACCESS, ILLEGAL_WORD}
 use Rattle.rv_table.specs.declared.Instr.{Instr}
 use Rattle.rv_core.specs.Effect.{effect}
 use Rattle.rv_core.specs.declared.registers.Plan.{Plan}
@@ -19,7 +18,7 @@ returns-in_default-clause-does c w rest found =
     let world = world_of k.objects rest w in
     let seen = sym c.in_default.is ∙ c.fetch.ensures rest found.content in
     subst (λ (e : Effect). Does k k rest w e c.stops.result) (sym (nothing_fetched world c.args.me c.args.thread.now seen))
-    (stopped c.args.thread.now NO_ACCESS c.stops.ensures found.counted)
+    (stopped c.args.thread.now _ c.stops.ensures found.counted)
 
 pub returns-in_default-decode-clause-does : goal.returns-in_default-decode-clause-does
 unfolding world_of
@@ -32,7 +31,7 @@ returns-in_default-decode-clause-does c w rest found =
     let is = word_fetched world c.args.me thread c.in-Some.word seen
     ∙ ap (λ (i : Option Instr). with_fetch (fetched world.now thread) (obeyed world c.args.me thread i)) none in
     subst (λ (e : Effect). Does k k rest w e c.stops-in_default-decode.result) (sym is)
-    (with_places (fetched world.now thread) (stopped thread ILLEGAL_WORD c.stops-in_default-decode.ensures found.counted))
+    (with_places (fetched world.now thread) (stopped thread _ c.stops-in_default-decode.ensures found.counted))
 
 pub carry_out_plan-requires-clause-no_store : goal.carry_out_plan-requires-clause-no_store
 carry_out_plan-requires-clause-no_store c =

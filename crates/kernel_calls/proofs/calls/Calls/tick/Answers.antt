@@ -1,4 +1,4 @@
-use Rattle.std.proofs.Common.{◌≡◌, ◌∙◌, sym, ap, subst, Bool}
+use Rattle.std.proofs.Common.{◌∙◌, sym, ap, subst, Bool}
 use Rattle.std.specs.Prelude.{if◌then◌else◌, Option}
 use Rattle.sls_base.specs.declared.thread.Thread.{Thread as ThreadRecord}
 use Rattle.plain_state.specs.declared.label.Reply.TheVariants.{Retired, Wished}
