@@ -1,4 +1,5 @@
 pub mod Commits
 pub mod OnWays
 pub mod Places
+pub mod Played
 pub mod Steps

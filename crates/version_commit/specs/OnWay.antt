@@ -1,6 +1,8 @@
 -- A word that is made durable by a store, a flush and a fence.
-use Rattle.std.specs.Prelude.{◌≡◌, ℕ}
-use Rattle.pmem_model.specs.Words.{Word}
+use Rattle.std.specs.Prelude.{◌≡◌, ℕ, [], ◌∷◌, slice_index}
+use Rattle.pmem_model.specs.Words.{Word, bursts, flushes, fences}
+use Rattle.pmem_layout.specs.Places.{line_at}
+use Rattle.sls_base.specs.declared.limits.TheConstants.{LINE_WORDS}
 use Rattle.pmem_model.specs.Events.{Kind, Clean, Over, ReadyOver, WordIs}
 use Rattle.sls_base.specs.declared.fixed.TheConstants.{LEADER}
 use Rattle.version_commit.specs.declared.step.Step.{Step}
@@ -33,3 +35,9 @@ abbrev pub reads_after : Step → ℕ → ℕ → ℕ
 reads_after Store value reads = value
 reads_after Flush value reads = reads
 reads_after Fence value reads = reads
+
+-- all words after the step on the word at a place, which may store a value
+abbrev pub words_after : Step → ℕ → ℕ → (ℕ → Word) → ℕ → Word
+words_after Store at value f = bursts at 1 (slice_index (value ∷ [])) f
+words_after Flush at value f = flushes LEADER (line_at at) LINE_WORDS f
+words_after Fence at value f = fences LEADER f

@@ -6,7 +6,7 @@ ghost use Rattle.pmem_model.specs.Memory.{word_at, SameHomes, count_up};
 ghost use Rattle.pmem_model.specs.Events.{WordIs, Clean};
 ghost use Rattle.pmem_layout.specs.Owners as owners;
 ghost use Rattle.pmem_layout.specs.Rooms.{StoresOnlyIn};
-ghost use Rattle.version_commit.specs.OnWay.{next, durable_after, reads_after};
+ghost use Rattle.version_commit.specs.OnWay.{next, durable_after, reads_after, words_after};
 ghost use Rattle.version_commit.specs.Shows.{FormatShows, VersionShows};
 
 use crate::step::{self, Step};
@@ -31,6 +31,7 @@ pub fn version(nvm: &Pmem) -> Version
 impl Committer {
     /// Neither word is on its way.
     pub fn new() -> Committer
+        ensures steps { result ≡ record { format = Step.Store; version = Step.Store } }
         ensures format { (f : ℕ → Word) (word : ℕ) → WordIs LEADER Clean (f FORMAT_AT) word
             → FormatShows result f word word }
         ensures version { (f : ℕ → Word) (v : ℕ) → WordIs LEADER Clean (f VERSION_AT) v → VersionShows result f v v }
@@ -48,6 +49,8 @@ impl Committer {
         ensures steps { self.new ≡ record self.old { format = next self.old.format } }
         ensures one { nvm.new.ops ≡ count_up nvm.old.ops }
         ensures homes { SameHomes nvm.old nvm.new }
+        ensures words { (i : ℕ) → word_at nvm.new i
+            ≡ words_after self.old.format FORMAT_AT FORMAT_WORD (word_at nvm.old) i }
         ensures rest { StoresOnlyIn owners.Format (word_at nvm.old) (word_at nvm.new) }
         ensures shows { (was reads : ℕ) → FormatShows self.old (word_at nvm.old) was reads
             → FormatShows self.new (word_at nvm.new) (durable_after self.old.format was reads)
@@ -66,6 +69,8 @@ impl Committer {
         ensures steps { self.new ≡ record self.old { version = next self.old.version } }
         ensures one { nvm.new.ops ≡ count_up nvm.old.ops }
         ensures homes { SameHomes nvm.old nvm.new }
+        ensures words { (i : ℕ) → word_at nvm.new i
+            ≡ words_after self.old.version VERSION_AT version (word_at nvm.old) i }
         ensures rest { StoresOnlyIn owners.Version (word_at nvm.old) (word_at nvm.new) }
         ensures shows { (v w : ℕ) → VersionShows self.old (word_at nvm.old) v w
             → VersionShows self.new (word_at nvm.new) (durable_after self.old.version v w)

@@ -3,7 +3,7 @@
 ghost use Rattle.std.specs.Prelude.{◌≡◌, ◌≢◌, ◌<◌, ℕ, All};
 ghost use Rattle.pmem_model.specs.Memory.{word_at, AllHome};
 ghost use Rattle.version_commit.specs.Shows.{IsBetween};
-ghost use Rattle.version_commit.specs.Events.{IsPossible};
+ghost use Rattle.version_commit.specs.Events.{IsPossible, Happens, Plays};
 
 use crate::committer::Committer;
 use pmem_layout::line_at;
@@ -33,6 +33,8 @@ fn happen(committer: &mut Committer, nvm: &mut Pmem, version: Version, event: Ev
     requires possible { IsPossible event }
     requires home { AllHome nvm.old }
     ensures home { AllHome nvm.new }
+    ensures happens { Happens event version committer.old.version (word_at nvm.old)
+        committer.new.version (word_at nvm.new) }
     ensures between { (v : ℕ) → IsBetween committer.old (word_at nvm.old) v version
         → IsBetween committer.new (word_at nvm.new) v version }
 {
@@ -57,6 +59,8 @@ pub fn play(committer: &mut Committer, nvm: &mut Pmem, version: Version, events:
     requires possible { All IsPossible events.now }
     requires home { AllHome nvm.old }
     ensures home { AllHome nvm.new }
+    ensures plays { Plays events.now version committer.old.version (word_at nvm.old)
+        committer.new.version (word_at nvm.new) }
     ensures between { (v : ℕ) → IsBetween committer.old (word_at nvm.old) v version
         → IsBetween committer.new (word_at nvm.new) v version }
 {

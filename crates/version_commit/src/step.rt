@@ -4,7 +4,7 @@ ghost use Rattle.std.specs.Prelude.{◌≡◌, ◌≢◌, ℕ, ◌+◌, ◌<◌,
 ghost use Rattle.pmem_model.specs.Words.{Word};
 ghost use Rattle.pmem_model.specs.Memory.{word_at, SameHomes, count_up};
 ghost use Rattle.pmem_model.specs.Events.{WordCalm};
-ghost use Rattle.version_commit.specs.OnWay.{IsOnWay, next, durable_after, reads_after};
+ghost use Rattle.version_commit.specs.OnWay.{IsOnWay, next, durable_after, reads_after, words_after};
 
 use pmem_layout::line_at;
 use pmem_model::Pmem;
@@ -22,6 +22,7 @@ pub enum Step {
 #[tactic(auto, using(crate::proofs::Places::places))]
 pub fn go_on(nvm: &mut Pmem, step: Step, at: usize, value: u64)
     requires table { at < TABLE_WORDS }
+    ensures words { (i : ℕ) → word_at nvm.new i ≡ words_after step at value (word_at nvm.old) i }
     ensures others { (i : ℕ) → i ≢ at → WordCalm (word_at nvm.old i) (word_at nvm.new i) }
     ensures homes { SameHomes nvm.old nvm.new }
     ensures one { nvm.new.ops ≡ count_up nvm.old.ops }
