@@ -7,3 +7,4 @@ pub mod LogSteps
 pub mod RedoSteps
 pub mod FormatSteps
 pub mod Homes
+pub mod Played

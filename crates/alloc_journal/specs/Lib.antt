@@ -5,4 +5,5 @@ pub mod Says
 pub mod Work
 pub mod Shows
 pub mod Formatting
+pub mod Steps
 pub mod Events

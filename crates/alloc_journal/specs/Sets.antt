@@ -28,3 +28,17 @@ SameBut number old new = (n : ℕ) → n < NUMBERS → n ≢ number → has new 
 -- how many numbers are in one of two sets, and not in the other
 unfoldable pub changes : List ℕ → List ℕ → ℕ
 changes a b = count_of (λ n. differ (has a n) (has b n)) NUMBERS
+
+-- the least number of a set
+pub record IsLeast (words : List ℕ) (number : ℕ) : Type 0 where
+  pub inside : number < NUMBERS
+  pub found : has words number ≡ true
+  pub below : (n : ℕ) → n < number → has words n ≡ false
+
+abbrev pub IsEmpty : List ℕ → Type 0
+IsEmpty words = (n : ℕ) → n < NUMBERS → has words n ≡ false
+
+-- A number is put into a set, or taken out.
+pub record Puts (number : ℕ) (in_set : Bool) (old new : List ℕ) : Type 0 where
+  pub changed : has new number ≡ in_set
+  pub others : SameBut number old new

@@ -4,7 +4,8 @@ ghost use Rattle.std.specs.Prelude.{◌≡◌, ◌≢◌, ◌<◌, ℕ, Bool, Al
 ghost use Rattle.pmem_model.specs.Memory.{word_at, AllHome};
 ghost use Rattle.alloc_journal.specs.Format.{NumbersStand};
 ghost use Rattle.alloc_journal.specs.Shows.{NumbersShow};
-ghost use Rattle.alloc_journal.specs.Events.{IsPossible};
+ghost use Rattle.alloc_journal.specs.declared.history.Event.TheVariants as events;
+ghost use Rattle.alloc_journal.specs.Events.{IsPossible, Happens, Plays};
 
 use crate::numbers::Numbers;
 use pmem_layout::line_at;
@@ -44,6 +45,7 @@ fn happen(numbers: &mut Numbers, nvm: &mut Pmem, event: Event)
     requires possible { IsPossible event }
     requires home { AllHome nvm.old }
     ensures home { AllHome nvm.new }
+    ensures happens { Happens event numbers.old (word_at nvm.old) numbers.new (word_at nvm.new) }
     ensures shows { (v : ℕ) (saved : ℕ → Bool) → NumbersShow numbers.old.work (word_at nvm.old) v saved
         → NumbersShow numbers.new.work (word_at nvm.new) v saved }
 {
@@ -85,6 +87,7 @@ fn happen(numbers: &mut Numbers, nvm: &mut Pmem, event: Event)
 fn cut(numbers: &mut Numbers, nvm: &mut Pmem)
     requires { AllHome nvm.old }
     ensures home { AllHome nvm.new }
+    ensures happens { Happens events.Cut numbers.old (word_at nvm.old) numbers.new (word_at nvm.new) }
     ensures shows { (v : ℕ) (saved : ℕ → Bool) → NumbersShow numbers.old.work (word_at nvm.old) v saved
         → NumbersShow numbers.new.work (word_at nvm.new) v saved }
 {
@@ -99,6 +102,7 @@ pub fn play(numbers: &mut Numbers, nvm: &mut Pmem, events: &[Event])
     requires possible { All IsPossible events.now }
     requires home { AllHome nvm.old }
     ensures home { AllHome nvm.new }
+    ensures plays { Plays events.now numbers.old (word_at nvm.old) numbers.new (word_at nvm.new) }
     ensures shows { (v : ℕ) (saved : ℕ → Bool) → NumbersShow numbers.old.work (word_at nvm.old) v saved
         → NumbersShow numbers.new.work (word_at nvm.new) v saved }
     ensures stands { (v : ℕ) (saved : ℕ → Bool) → NumbersShow numbers.old.work (word_at nvm.old) v saved

@@ -1,6 +1,6 @@
 //! The work on the memory: the log of the next version is written, and that of the committed one is redone.
 
-ghost use Rattle.std.specs.Prelude.{◌≡◌, ◌≢◌, ◌+◌, ◌*◌, ◌^◌, ◌<◌, ◌≤◌, ◌↔◌, ℕ, Bool, IsTrue, true, false, slice_index};
+ghost use Rattle.std.specs.Prelude.{◌≡◌, ◌≢◌, ◌+◌, ◌*◌, ◌^◌, ◌<◌, ◌≤◌, ◌↔◌, ℕ, Bool, IsTrue, true, false, min, slice_index};
 ghost use Rattle.pmem_model.specs.Words.{Word};
 ghost use Rattle.pmem_model.specs.Memory.{word_at, SameHomes};
 ghost use Rattle.pmem_model.specs.Events.{WordIs, Clean};
@@ -17,6 +17,7 @@ ghost use Rattle.alloc_journal.specs.Shows.{NumbersShow};
 ghost use Rattle.alloc_journal.specs.Sets as sets;
 ghost use Rattle.alloc_journal.specs.Sets.{changes};
 ghost use Rattle.alloc_journal.specs.Says.{Says};
+ghost use Rattle.alloc_journal.specs.Steps.{Begins, StoresOrFlushes, RedoesOrFlushes, RedoesEntry, Logs, Redoes, Recovers, lines_of};
 
 use crate::bits::{BASE_WORDS, Bits, differing, has, least, put};
 use crate::entry::{Change, change_of, entry_word};
@@ -136,6 +137,7 @@ impl Journal {
         ensures kept { IsKept (work_of result) }
         ensures version { result.version ≡ version }
         ensures redo { is_redo result.stage ≡ true }
+        ensures recovers { Recovers version (word_at nvm.now) (work_of result) }
         ensures shows { (saved : ℕ → Bool)
             → ((i : ℕ) → owner i ≡ Numbers → WordIs LEADER Clean (word_at nvm.now i) ((word_at nvm.now i).durable))
             → NumbersStand (λ i. (word_at nvm.now i).durable) version saved
@@ -176,6 +178,7 @@ impl Journal {
         ensures one { AtMostOne nvm.old nvm.new }
         ensures rest { StoresOnlyIn Numbers (word_at nvm.old) (word_at nvm.new) }
         ensures last { IsTrue result ↔ (self.new.stage ≡ Logged) }
+        ensures logs { Logs running.now (work_of self.old) (word_at nvm.old) (work_of self.new) (word_at nvm.new) }
         ensures first { self.old.stage ≡ Rest
             → log_left (work_of self.new) ≡ changes self.old.committed running.now + 4 }
         ensures left { is_logging self.old.stage ≡ true → self.old.stage ≢ Logged
@@ -233,6 +236,7 @@ impl Journal {
         requires version { self.old.version < LAST_VERSION }
         requires rest { self.old.stage ≡ Rest }
         ensures kept { IsKept (work_of self.new) }
+        ensures begins { Begins running.now (work_of self.old) (work_of self.new) }
         ensures stage { self.new.stage ≡ StoringEntries }
         ensures version { self.new.version ≡ self.old.version }
         ensures committed { self.new.committed ≡ self.old.committed }
@@ -256,6 +260,7 @@ impl Journal {
         ensures one { AtMostOne nvm.old nvm.new }
         ensures rest { StoresOnlyIn Numbers (word_at nvm.old) (word_at nvm.new) }
         ensures stage { self.new.stage ≢ Logged }
+        ensures stores { StoresOrFlushes (work_of self.old) (word_at nvm.old) (work_of self.new) (word_at nvm.new) }
         ensures left { log_left (work_of self.old) ≡ log_left (work_of self.new) + 1 }
         ensures version { self.new.version ≡ self.old.version }
         ensures committed { self.new.committed ≡ self.old.committed }
@@ -299,6 +304,7 @@ impl Journal {
         ensures one { AtMostOne nvm.old nvm.new }
         ensures rest { StoresOnlyIn Numbers (word_at nvm.old) (word_at nvm.new) }
         ensures last { IsTrue result ↔ (is_redo self.new.stage ≡ false) }
+        ensures redoes { Redoes (work_of self.old) (word_at nvm.old) (work_of self.new) (word_at nvm.new) }
         ensures left { is_redo self.old.stage ≡ true → redo_left (work_of self.old) ≡ redo_left (work_of self.new) + 1 }
         ensures version { self.new.version ≡ self.old.version }
         ensures logged { self.new.logged ≡ self.old.logged }
@@ -348,6 +354,7 @@ impl Journal {
         ensures one { AtMostOne nvm.old nvm.new }
         ensures rest { StoresOnlyIn Numbers (word_at nvm.old) (word_at nvm.new) }
         ensures redo { is_redo self.new.stage ≡ true }
+        ensures redoes { RedoesOrFlushes (work_of self.old) (word_at nvm.old) (work_of self.new) (word_at nvm.new) }
         ensures left { redo_left (work_of self.old) ≡ redo_left (work_of self.new) + 1 }
         ensures version { self.new.version ≡ self.old.version }
         ensures logged { self.new.logged ≡ self.old.logged }
@@ -378,6 +385,8 @@ impl Journal {
         ensures one { AtMostOne nvm.old nvm.new }
         ensures rest { StoresOnlyIn Numbers (word_at nvm.old) (word_at nvm.new) }
         ensures stage { self.new.stage ≡ Redoing }
+        ensures redoes { (entry : ℕ) → Says change entry
+            → RedoesEntry entry (work_of self.old) (word_at nvm.old) (work_of self.new) (word_at nvm.new) }
         ensures left { redo_left (work_of self.old) ≡ redo_left (work_of self.new) + 1 }
         ensures version { self.new.version ≡ self.old.version }
         ensures logged { self.new.logged ≡ self.old.logged }
@@ -410,8 +419,7 @@ fn read_base(nvm: &Pmem) -> Bits
 
 /// How many entries of a log count at a version, by its head.
 fn entries_at(head: u64, version: Version) -> usize
-    ensures most { result ≤ NUMBERS }
-    ensures count { log_count head version ≤ NUMBERS → result ≡ log_count head version }
+    ensures { result ≡ min (log_count head version) NUMBERS }
 {
     match LogHead::from_word(head) {
         Some(head) if head.version == version => usize::from(head.entries).min(NUMBERS),
@@ -422,6 +430,7 @@ fn entries_at(head: u64, version: Version) -> usize
 /// The lines that some entries stand in, at least one.
 fn entry_lines(entries: usize) -> usize
     requires { entries ≤ NUMBERS }
+    ensures lines { result ≡ lines_of entries }
     ensures some { 0 < result }
     ensures all { entries ≤ LINE_WORDS * result }
     ensures in_log { LINE_WORDS * result ≤ NUMBERS }

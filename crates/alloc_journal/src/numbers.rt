@@ -16,6 +16,7 @@ ghost use Rattle.alloc_journal.specs.Work.{is_used, once_committed, is_redo, is_
 ghost use Rattle.alloc_journal.specs.Formatting.{FormatShows};
 ghost use Rattle.alloc_journal.specs.Operations.{AtMostOne};
 ghost use Rattle.alloc_journal.specs.Shows.{NumbersShow};
+ghost use Rattle.alloc_journal.specs.Steps.{Logs, Redoes, Recovers};
 
 use crate::bits::{BASE_WORDS, Bits, least, neither, put};
 use crate::journal::{Journal, Stage};
@@ -86,6 +87,8 @@ impl Numbers {
         requires version { version ≤ LAST_VERSION }
         ensures version { result.work.version ≡ version }
         ensures redo { is_redo result.work.stage ≡ true }
+        ensures running { result.running ≡ result.work.committed }
+        ensures recovers { Recovers version (word_at nvm.now) result.work }
         ensures shows { (saved : ℕ → Bool)
             → ((i : ℕ) → owner i ≡ owners.Numbers
             → WordIs LEADER Clean (word_at nvm.now i) ((word_at nvm.now i).durable))
@@ -198,6 +201,7 @@ impl Numbers {
         ensures one { AtMostOne nvm.old nvm.new }
         ensures rest { StoresOnlyIn owners.Numbers (word_at nvm.old) (word_at nvm.new) }
         ensures last { IsTrue result ↔ (self.new.work.stage ≡ Logged) }
+        ensures logs { Logs self.old.running self.old.work (word_at nvm.old) self.new.work (word_at nvm.new) }
         ensures first { self.old.work.stage ≡ Rest
             → log_left self.new.work ≡ changes self.old.work.committed self.old.running + 4 }
         ensures left { is_logging self.old.work.stage ≡ true → self.old.work.stage ≢ Logged
@@ -230,6 +234,7 @@ impl Numbers {
         ensures one { AtMostOne nvm.old nvm.new }
         ensures rest { StoresOnlyIn owners.Numbers (word_at nvm.old) (word_at nvm.new) }
         ensures last { IsTrue result ↔ (is_redo self.new.work.stage ≡ false) }
+        ensures redoes { Redoes (once_committed self.old.work) (word_at nvm.old) self.new.work (word_at nvm.new) }
         ensures left { is_redo (once_committed self.old.work).stage ≡ true
             → redo_left (once_committed self.old.work) ≡ redo_left self.new.work + 1 }
         ensures version { self.new.work.version ≡ (once_committed self.old.work).version }
@@ -254,6 +259,7 @@ impl Numbers {
         ensures one { AtMostOne nvm.old nvm.new }
         ensures rest { StoresOnlyIn owners.Numbers (word_at nvm.old) (word_at nvm.new) }
         ensures last { IsTrue result ↔ (is_redo self.new.work.stage ≡ false) }
+        ensures redoes { Redoes self.old.work (word_at nvm.old) self.new.work (word_at nvm.new) }
         ensures left { is_redo self.old.work.stage ≡ true → redo_left self.old.work ≡ redo_left self.new.work + 1 }
         ensures version { self.new.work.version ≡ self.old.work.version }
         ensures running { self.new.running ≡ self.new.work.committed }
@@ -276,6 +282,8 @@ impl Numbers {
         ensures words { (i : ℕ) → word_at nvm.new i ≡ cuts (word_at nvm.old) i }
         ensures version { result.work.version ≡ version }
         ensures redo { is_redo result.work.stage ≡ true }
+        ensures running { result.running ≡ result.work.committed }
+        ensures recovers { Recovers version (word_at nvm.new) result.work }
         ensures same { (saved : ℕ → Bool) → NumbersShow self.work (word_at nvm.old) version saved
             → NumbersShow result.work (word_at nvm.new) version saved }
         ensures next { (v : ℕ) (saved : ℕ → Bool) → self.work.stage ≡ Logged → version ≡ v + 1

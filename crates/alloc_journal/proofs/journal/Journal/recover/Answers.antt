@@ -1,4 +1,4 @@
-use Rattle.std.proofs.Common.{◌≡◌, ◌∙◌, ◌≤◌, ℕ, refl, subst}
+use Rattle.std.proofs.Common.{◌≡◌, ◌∙◌, ◌≤◌, ℕ, refl, subst, arith}
 use Rattle.pmem_model.specs.Memory.{word_at}
 use Rattle.pmem_layout.specs.declared.places.TheConstants.{LOG_HEAD_AT, NUMBERS}
 use Rattle.pmem_layout.specs.Fields.{log_count}
@@ -11,5 +11,6 @@ returns-clause-shows c = λ saved clean stand.
     let head : c.read.result ≡ (word_at c.args.nvm.now LOG_HEAD_AT).durable = c.read.ensures
     ∙ (clean LOG_HEAD_AT owner_head).0 in
     numbers_recovered _ (word_at c.args.nvm.now) c.args.version saved refl refl refl
-    (subst (λ (x : ℕ). log_count x c.args.version ≤ NUMBERS → c.entries_at.result ≡ log_count x c.args.version) head c.entries_at.ensures.count)
+    (subst (λ (x : ℕ). log_count x c.args.version ≤ NUMBERS → c.entries_at.result ≡ log_count x c.args.version) head
+    (let is = c.entries_at.ensures in λ few. omega (arith, is, few)))
     c.read_base-base.ensures clean stand
