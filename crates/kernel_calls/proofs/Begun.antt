@@ -1,8 +1,9 @@
 -- What was so of the running kernel is so when a thread was taken.
-use Rattle.std.specs.Prelude.{◌⊎◌, ◌≡◌, ◌≢◌, ℕ, Bool, true, if◌then◌else◌, List, [], ◌∷◌, drop, Option, Some, None}
+use Rattle.std.specs.Prelude.{◌⊎◌, ◌≡◌, ◌≢◌, ℕ, Bool, true, if◌then◌else◌, List, [], ◌∷◌, drop, Option, Some, None, option_map}
 use Rattle.std.proofs.Common.{refl, ap, sym, ◌∙◌, subst, inl, inr}
 use mathlib.Core.Path.{fun_ext}
 use Rattle.sls_base.specs.declared.fixed.TheConstants.{SCHEDULER}
+use Rattle.sls_base.specs.declared.rights.TheConstants.{WRITE}
 use Rattle.sls_base.specs.declared.thread.Thread.{Thread as ThreadRecord}
 use Rattle.sls_base.specs.declared.thread.ThreadState.{ThreadState}
 use Rattle.sls_base.specs.declared.thread.ThreadState.TheVariants.{Ready, Running, Waiting, Calling, Served, Serving, Stopped}
@@ -15,15 +16,17 @@ use Rattle.plain_state.specs.declared.label.Reply.TheVariants.{Retired, Wished}
 use Rattle.plain_state.specs.declared.objects.Occupant.{Occupant}
 use Rattle.plain_state.specs.Objects.{Object, regions_of}
 use Rattle.plain_state.specs.States.{State, thread_at}
-use Rattle.plain_state.specs.Worlds.{World, has_page, put_count}
+use Rattle.plain_state.specs.Memory.{page_at, place_of}
+use Rattle.plain_state.specs.Worlds.{World, has_page}
 use Rattle.plain_state.specs.Effects.{Effect}
 use Rattle.plain_state.specs.Instructions.{instruction}
-use Rattle.plain_state.specs.Ticks.{Chosen, chosen, own_or_front, state_of_effect, ticked, tick, reply_for, tick_reply}
+use Rattle.plain_state.specs.Ticks.{Chosen, chosen, own_or_front, state_of_effect, ticked, tick, reply_for, tick_reply, stores_to, stores_for, must_store}
 use Rattle.plain_laws.specs.Bounds.{HasThreads, IsStateOf}
+use Rattle.plain_laws.specs.Sound.{AreApart}
 use Rattle.plain_laws.specs.Ticks.{IsAlike}
 use Rattle.kobj_table.specs.declared.objects.Objects.{Objects}
 use Rattle.kobj_table.specs.declared.slot.Slot.{Slot}
-use Rattle.kobj_table.specs.Slots.{is_scheduler}
+use Rattle.kobj_table.specs.Slots.{is_scheduler, page_of}
 use Rattle.kobj_table.specs.Objects.{Rest, slot_at, object_at, state_of, state_with_queue, ListsAlone}
 use Rattle.call_readings.specs.declared.devices.Devices.{Devices}
 use Rattle.call_readings.specs.Kernel.{world_of, CountsEntries, IsAttached, IsOfWorld}
@@ -32,7 +35,8 @@ use Rattle.kernel_calls.specs.declared.calls.Calls.{Calls}
 use Rattle.kernel_calls.specs.Kernel.{Held, IsSound}
 use Rattle.kernel_calls.specs.Callers.{IsCaller}
 use Rattle.kernel_calls.specs.Ticking.{Takes}
-use Rattle.kernel_calls.specs.Instructions.{HeldOver, MayRun, ShowsHome, StoresNothing}
+use Rattle.kernel_calls.specs.Instructions.{HeldOver, MayCarryOut, MayRun, ShowsHome, ShowsStored}
+use Rattle.kernel_calls.proofs.Entries.{entries_kept}
 use Rattle.kernel_calls.proofs.Objects.{told}
 use Rattle.kernel_calls.proofs.Numbers.{counted_kept}
 use Rattle.kernel_calls.proofs.Queues.{IsItsSlot, queue_alone, not_the_queue}
@@ -68,16 +72,8 @@ threads_kept s queue threads i thread is =
     let t = threads i thread is in
     record { pc = t.pc; aligned = t.aligned; count = t.count; each = t.each; zero = t.zero; state = state_kept s queue thread.state t.state }
 
-entries_kept : (slot : Slot) (v w : World) → ((channel : ℕ) → put_count v channel ≡ put_count w channel) → CountsEntries slot w → CountsEntries slot v
-entries_kept Slot.Empty v w same is = is
-entries_kept (Slot.Group group) v w same is = is
-entries_kept (Slot.Thread thread) v w same is = is
-entries_kept (Slot.Space space) v w same is = is
-entries_kept (Slot.Memory memory) v w same is = is
-entries_kept (Slot.Connection connection) v w same is = is
-entries_kept (Slot.Notification note) v w same is = is
-entries_kept (Slot.Ring ring) v w same is = (is.0, λ output. is.1 output ∙ sym (same ring.channel))
-entries_kept (Slot.Scheduler cores) v w same is = is
+apart_kept : (s : State) (queue : List ℕ) → AreApart s → AreApart (state_with_queue s queue)
+apart_kept s queue apart = record { in_range = apart.in_range; once = apart.once; apart = apart.apart }
 
 pub effect_kept : (s : State) (queue : List ℕ) (core : ℕ) (c : Chosen) (e : Effect) → state_of_effect (state_with_queue s queue) core c e ≡ state_of_effect s core c e
 unfolding state_of_effect
@@ -128,17 +124,24 @@ module _ (o m : Objects) (slots : m.slots ≡ o.slots) (lists : (i : ℕ) → i 
     home_taken law memory space right at home content =
         subst (λ (objects : ℕ → Option Object). IsAtHome memory (page_seen objects (regions_of (objects space)) right at)) (sym (same_objects law content)) (home content)
 
-    plan_taken : IsItsSlot → (memory : Memory) (thread : ThreadRecord) (plan : Plan) → StoresNothing o memory thread plan → StoresNothing m memory thread plan
+    stored_taken : IsItsSlot → (memory : Memory) (space at : ℕ) → ShowsStored o memory space at → ShowsStored m memory space at
+    stored_taken law memory space at shows = record {
+      home = home_taken law memory space _ at shows.home;
+      stored = λ page sees. shows.stored page (λ content.
+          subst (λ (objects : ℕ → Option Object). Some (page_of content page) ≡ option_map (page_at objects) (place_of (regions_of (objects space)) WRITE at)) (same_objects law content) (sees content));
+    }
+
+    plan_taken : IsItsSlot → (memory : Memory) (thread : ThreadRecord) (plan : Plan) → MayCarryOut o memory thread plan → MayCarryOut m memory thread plan
     plan_taken law memory thread (Set rd value pc) is = is
     plan_taken law memory thread (Load op rd at) is = home_taken law memory thread.space _ at is
-    plan_taken law memory thread (Store op at value) is = is
+    plan_taken law memory thread (Store op at value) is = stored_taken law memory thread.space at is
     plan_taken law memory thread Call is = is
     plan_taken law memory thread (Stop cause) is = is
 
     pub may_run_taken : IsItsSlot → StateAlone → (memory : Memory) (thread : ThreadRecord) → MayRun o memory thread → MayRun m memory thread
     may_run_taken law alone_law memory thread may = record {
       home = home_taken law memory thread.space _ thread.pc may.home;
-      no_store = λ rest plan reads is. plan_taken law memory thread plan (may.no_store rest plan reads (rw (state_taken alone_law rest) at is));
+      carried_out = λ rest plan reads is. plan_taken law memory thread plan (may.carried_out rest plan reads (rw (state_taken alone_law rest) at is));
     }
 
 -- The kernel is the same world's but for the queue, when a thread was taken.
@@ -169,6 +172,8 @@ held_taken law alone_law k n devices memory core id slice takes numbers left h =
         strays = left.strays;
       };
       found = found;
+      apart = subst (λ (s : State). AreApart s) (sym (state_taken k.objects n.objects takes.slots takes.lists h.held.scheduler alone_law h.held.rest))
+          (apart_kept (state_of k.objects h.held.rest) (list_at n.objects.links RUN_QUEUE) h.apart);
     } where
       sound_by : chosen (state_of k.objects h.held.rest) core ≡ Some (record { occupant = record { thread = id; slice = slice }; queue = list_at n.objects.links RUN_QUEUE }) →
           IsSound (state_with_queue (state_of k.objects h.held.rest) (list_at n.objects.links RUN_QUEUE))
@@ -192,17 +197,24 @@ module _ (o m : Objects) (core id slice : ℕ) (takes : Takes o m core id slice)
     effect_taken =
         instruction_taken o m takes.slots takes.lists scheduler law little rest w id thread ∙ ap (λ (t : ThreadRecord). instruction (world_of o rest w) id t) thread_taken
 
-    pub tick_state : (n : Objects) →
-        state_of n rest ≡ state_of_effect (state_of m rest) core (record { occupant = record { thread = id; slice = slice }; queue = list_at m.links RUN_QUEUE }) (instruction (world_of m rest w) id thread) →
-        state_of n rest ≡ (tick (world_of o rest w) core).now
+    pub tick_state :
+        state_of_effect (state_of m rest) core (record { occupant = record { thread = id; slice = slice }; queue = list_at m.links RUN_QUEUE }) (instruction (world_of m rest w) id thread)
+        ≡ (tick (world_of o rest w) core).now
     unfolding world_of taken
-    tick_state n e =
+    tick_state =
         let s = state_of o rest in
         let c : Chosen = record { occupant = record { thread = id; slice = slice }; queue = list_at m.links RUN_QUEUE } in
-        e ∙ ap (λ (x : State). state_of_effect x core c (instruction (world_of m rest w) id thread)) same
+        ap (λ (x : State). state_of_effect x core c (instruction (world_of m rest w) id thread)) same
         ∙ effect_kept s (list_at m.links RUN_QUEUE) core c (instruction (world_of m rest w) id thread)
         ∙ ap (λ (x : Effect). state_of_effect s core c x) effect_taken
         ∙ sym (ap (λ (x : Option Chosen). (ticked (world_of o rest w) core x).now) (takes.chosen_is rest))
+
+    pub tick_stores : stores_to (state_of m rest) (instruction (world_of m rest w) id thread) ≡ must_store (world_of o rest w) core
+    unfolding world_of
+    tick_stores =
+        ap (λ (e : Effect). stores_to (state_of m rest) e) effect_taken
+        ∙ ap (λ (s : State). stores_to s (instruction (world_of o rest w) id (thread_at (state_of o rest) id))) same
+        ∙ sym (ap (λ (x : Option Chosen). stores_for (world_of o rest w) x) (takes.chosen_is rest))
 
     pub tick_replies : (wishes : Bool) → wishes ≡ (instruction (world_of m rest w) id thread).wishes → (if wishes then Wished else Retired) ≡ tick_reply (world_of o rest w) core
     unfolding world_of

@@ -12,6 +12,16 @@ pub mod Notes
 pub mod Connections
 pub mod Spaces
 pub mod Taken
+pub mod Entries
 pub mod Ticks
 pub mod Obeyed
+pub mod Storing
+pub mod StoredPages
+pub mod Settled
 pub mod Begun
+pub mod Sound
+pub mod Kept
+pub mod Touched
+pub mod Shown
+pub mod Needed
+pub mod Prepared

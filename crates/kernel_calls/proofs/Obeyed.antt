@@ -1,6 +1,6 @@
 -- What an instruction of a thread comes to.
-use Rattle.std.specs.Prelude.{◌≡◌, ℕ, Bool, true, false, if◌then◌else◌, List, Option, Some, None, option_map}
-use Rattle.std.proofs.Common.{refl, ap}
+use Rattle.std.specs.Prelude.{◌≡◌, ℕ, Bool, true, false, if◌then◌else◌, List, drop, Option, Some, None, option_map}
+use Rattle.std.proofs.Common.{refl, ap, sym, ◌∙◌}
 use Rattle.sls_base.specs.declared.limits.TheConstants.{INSTRUCTION_BYTES}
 use Rattle.sls_base.specs.declared.rights.TheConstants.{READ, EXECUTE}
 use Rattle.sls_base.specs.declared.causes.TheConstants.{NO_ACCESS}
@@ -8,19 +8,27 @@ use Rattle.sls_base.specs.declared.thread.Thread.{Thread as ThreadRecord}
 use Rattle.rv_table.specs.Decoded.{decoded}
 use Rattle.rv_core.specs.Effect.{effect, size_of}
 use Rattle.rv_core.specs.declared.registers.Regs.{Regs}
+use Rattle.pmem_model.specs.Memory.{Memory}
+use Rattle.plain_state.specs.declared.effect.ByteStore.{ByteStore}
+use Rattle.plain_state.specs.declared.effect.Output.{Output}
 use Rattle.plain_state.specs.declared.effect.Place.{Place}
 use Rattle.plain_state.specs.States.{State}
 use Rattle.plain_state.specs.Worlds.{World}
-use Rattle.plain_state.specs.Memory.{is_covered}
+use Rattle.plain_state.specs.Memory.{is_covered, with_stores}
 use Rattle.plain_state.specs.Effects.{Effect, goes_on, stops, regs_of}
 use Rattle.plain_state.specs.Instructions.{seen_by, fetched, value_at, with_fetch, obeyed, load_effect, instruction}
-use Rattle.kobj_table.specs.Objects.{Rest}
+use Rattle.plain_state.specs.Ticks.{with_changes, with_output}
+use Rattle.sls_base.specs.declared.thread.Ring.{Ring}
+use Rattle.kobj_table.specs.declared.slot.Slot.{Slot}
+use Rattle.kobj_table.specs.Objects.{Rest, slot_at, object_at, state_of}
+use Rattle.call_readings.specs.declared.devices.Devices.{Devices}
 use Rattle.call_readings.specs.Content.{number_seen}
-use Rattle.call_readings.specs.Kernel.{world_of, IsCounted}
+use Rattle.call_readings.specs.Kernel.{world_of, IsCounted, IsOfWorld}
 use Rattle.kernel_calls.specs.declared.calls.Calls.{Calls}
 use Rattle.kernel_calls.specs.declared.done.Done.{Done}
-use Rattle.kernel_calls.specs.Does.{Does, Tells}
+use Rattle.kernel_calls.specs.Does.{Does, Obeys, Tells}
 use Rattle.kernel_calls.specs.Instructions.{plan_of}
+use Rattle.kernel_calls.proofs.Entries.{entries_kept, ring_kept}
 use Rattle.kernel_calls.proofs.Frames.{unchanged}
 
 -- a thread that stops changes nothing else
@@ -41,17 +49,52 @@ pub loaded : {k : Calls} {rest : Rest} {w : World} {done : Done} → (s : State)
     → Does k k rest w (load_effect s thread op rd at) done
 loaded s thread op rd at tells h = loaded_if (is_covered (seen_by s thread) READ at (size_of op)) _ _ thread tells h
 
+load_takes_if : (covered : Bool) (regs : Regs) (places : List Place) (thread : ThreadRecord)
+    → (if covered then record (goes_on regs) { loads = places } else stops thread NO_ACCESS).takes ≡ false
+load_takes_if true regs places thread = refl
+load_takes_if false regs places thread = refl
+
+pub load_takes : (s : State) (thread : ThreadRecord) (op rd at : ℕ) → (load_effect s thread op rd at).takes ≡ false
+load_takes s thread op rd at = load_takes_if (is_covered (seen_by s thread) READ at (size_of op)) _ _ thread
+
+-- what stores nothing, puts no entry and takes no input leaves what doesn't stand in the objects as it was
+pub obeyed_quietly : (k n : Calls) (devices : Devices) (m : Memory) (rest : Rest) (w : World) (e : Effect) (done : Done) → IsOfWorld k.objects k.numbers devices m rest w
+    → Does k n rest w e done → ((id : ℕ) (ring : Ring) → slot_at n.objects id ≡ Slot.Ring ring → slot_at k.objects id ≡ Slot.Ring ring)
+    → (after : Rest) × Obeys k n rest after m w e done
+unfolding world_of state_of
+obeyed_quietly k n devices m rest w e done found d rings = (
+  rest,
+  record {
+    objects = λ i. d.objects i ∙ sym (ap (λ (s : List ByteStore). with_changes (with_stores (object_at rest.content k.objects) s) e.changes i) d.quiet.stores);
+    queue = d.queue;
+    scheduler = d.scheduler;
+    out = sym (ap (λ (o : Option Output). with_output rest.out o) d.quiet.output);
+    inputs = sym (ap (λ (b : Bool). if b then drop 1 rest.inputs else rest.inputs) d.quiet.takes);
+    counted = d.counted;
+    rings = λ id. ring_kept (slot_at n.objects id) (slot_at k.objects id) (world_of n.objects rest w) (rings id)
+        (entries_kept (slot_at k.objects id) (world_of n.objects rest w) (world_of k.objects rest w) (λ channel. refl) (found.attached.rings id));
+    content = found.content;
+    caller = d.caller;
+  },
+)
+
 -- that an effect has fetched its instruction changes nothing
-pub with_places : {k m : Calls} {rest : Rest} {w : World} {e : Effect} {done : Done} → (places : List Place) → Does k m rest w e done
-    → Does k m rest w (with_fetch places e) done
-with_places places d = record {
-  objects = d.objects;
-  queue = d.queue;
-  scheduler = d.scheduler;
-  counted = d.counted;
-  caller = record { regs = d.caller.regs; goes = d.caller.goes; wishes = d.caller.wishes };
-  quiet = record { stores = d.quiet.stores; output = d.quiet.output; takes = d.quiet.takes };
-}
+pub with_places : {k n : Calls} {rest : Rest} {m : Memory} {w : World} {e : Effect} {done : Done} → (places : List Place)
+    → ((after : Rest) × Obeys k n rest after m w e done) → (after : Rest) × Obeys k n rest after m w (with_fetch places e) done
+with_places places d = (
+  d.0,
+  record {
+    objects = d.1.objects;
+    queue = d.1.queue;
+    scheduler = d.1.scheduler;
+    out = d.1.out;
+    inputs = d.1.inputs;
+    counted = d.1.counted;
+    rings = d.1.rings;
+    content = d.1.content;
+    caller = record { regs = d.1.caller.regs; goes = d.1.caller.goes; wishes = d.1.caller.wishes };
+  },
+)
 
 -- The word at the pc.
 

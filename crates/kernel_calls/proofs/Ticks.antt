@@ -30,6 +30,7 @@ use Rattle.std.specs.Prelude.{◌-◌, if◌then◌else◌}
 use Rattle.std.specs.Prelude.{Bool}
 use mathlib.Core.Path.{fun_ext}
 use Rattle.std.proofs.lemmas.Bool.{eqb-true, eqb-false}
+use Rattle.pmem_model.specs.Memory.{Memory}
 use Rattle.plain_state.specs.Objects as plain
 use Rattle.plain_state.specs.Objects.{Object, Thread}
 use Rattle.plain_state.specs.States.{thread_at, with_object}
@@ -40,7 +41,7 @@ use Rattle.plain_state.specs.Ticks.{with_changes, thread_after, state_of_effect}
 use Rattle.kobj_table.specs.Slots.{object_of}
 use Rattle.kobj_table.specs.Objects.{object_at}
 use Rattle.kernel_calls.specs.declared.calls.Calls.{Calls}
-use Rattle.kernel_calls.specs.Does.{Does, Tells}
+use Rattle.kernel_calls.specs.Does.{Obeys, Tells}
 use Rattle.kernel_calls.specs.Ticking.{Settles}
 use Rattle.call_readings.specs.declared.numbers.NumbersInUse.{NumbersInUse}
 use Rattle.call_readings.specs.Kernel.{world_of, IsCounted}
@@ -176,7 +177,7 @@ settled o m r n core id left thread done goes state now p others cores scheduler
       lists = λ i other. lists i other ∙ ap (λ (l : List (List ℕ)). list_at l i) (links ∙ p.links);
     }
 
--- A tick of a call, from its parts.
+-- A tick, from its parts.
 
 scheduler_is : (content : ℕ → ℕ → ℕ) (slot : Slot) (threads : List ℕ) → is_scheduler slot ≡ true → object_of content slot threads ≡ Some plain.Scheduler
 scheduler_is content slot threads e = let is = is_that slot e in rw is.1 refl
@@ -193,28 +194,29 @@ settled_by o n core id left thread e done content i false false same same' s sch
 abbrev state_made : (ℕ → Option Object) → List ℕ → List (Option Occupant) → (ℕ → List (List ℕ)) → List (List ℕ) → State
 state_made objects queue cores out inputs = record { objects = objects; queue = queue; cores = cores; out = out; inputs = inputs }
 
-state_same : (f g : ℕ → Option Object) (p q : List ℕ) (a b : List (Option Occupant)) (out : ℕ → List (List ℕ)) (inputs : List (List ℕ)) → f ≡ g → p ≡ q → a ≡ b →
-    state_made f p a out inputs ≡ state_made g q b out inputs
-state_same f g p q a b out inputs x y z =
+state_same : (f g : ℕ → Option Object) (p q : List ℕ) (a b : List (Option Occupant)) (out out' : ℕ → List (List ℕ)) (inputs inputs' : List (List ℕ)) → f ≡ g → p ≡ q → a ≡ b →
+    out ≡ out' → inputs ≡ inputs' → state_made f p a out inputs ≡ state_made g q b out' inputs'
+state_same f g p q a b out out' inputs inputs' x y z u v =
     ap (λ (h : ℕ → Option Object). state_made h p a out inputs) x ∙ ap (λ (l : List ℕ). state_made g l a out inputs) y ∙ ap (λ (l : List (Option Occupant)). state_made g q l out inputs) z
+    ∙ ap (λ (l : ℕ → List (List ℕ)). state_made g q b l inputs) u ∙ ap (λ (l : List (List ℕ)). state_made g q b out' l) v
 
--- the call of a thread, and then it is put down: the state is what the effect makes of it
-pub ticked : (k m : Calls) (n : Objects) (rest : Rest) (w : World) (core id slice : ℕ) (e : Effect) (done : Done) → Does k m rest w e done →
+-- the instruction of a thread, and then it is put down: the state is what the effect makes of it
+pub ticked : (k m : Calls) (n : Objects) (rest after : Rest) (memory : Memory) (w : World) (core id slice : ℕ) (e : Effect) (done : Done) → Obeys k m rest after memory w e done →
     Settles m.objects n core id (slice - 1) (thread_at (state_of k.objects rest) id) done → is_scheduler (slot_at k.objects SCHEDULER) ≡ true →
-    state_of n rest ≡ state_of_effect (state_of k.objects rest) core (record { occupant = record { thread = id; slice = slice }; queue = list_at k.objects.links RUN_QUEUE }) e
+    state_of n after ≡ state_of_effect (state_of k.objects rest) core (record { occupant = record { thread = id; slice = slice }; queue = list_at k.objects.links RUN_QUEUE }) e
 unfolding state_of state_of_effect
-ticked k m n rest w core id slice e done d s scheduler =
+ticked k m n rest after memory w core id slice e done d s scheduler =
     let left = slice - 1 in
     let thread = thread_at (state_of k.objects rest) id in
     let goes : at_slice_end left done.goes ≡ at_slice_end left e.goes = ap (λ (g : Goes). at_slice_end left g) d.caller.goes in
     let still : is_scheduler (slot_at m.objects SCHEDULER) ≡ true = rw d.scheduler scheduler in
-    let objects : object_at rest.content n ≡ with_object (with_changes (with_stores (object_at rest.content k.objects) e.stores) e.changes) id (Thread (thread_after core thread (at_slice_end left e.goes) e)) =
-    fun_ext (λ i. settled_by m.objects n core id left thread e done rest.content i (i == id) (i == SCHEDULER) refl refl s still d.caller ∙ rw (d.objects i) (rw d.quiet.stores refl)) in
+    let objects : object_at after.content n ≡ with_object (with_changes (with_stores (object_at rest.content k.objects) e.stores) e.changes) id (Thread (thread_after core thread (at_slice_end left e.goes) e)) =
+    fun_ext (λ i. settled_by m.objects n core id left thread e done after.content i (i == id) (i == SCHEDULER) refl refl s still d.caller ∙ rw (d.objects i) refl) in
     let queue : list_at n.links RUN_QUEUE ≡ list_at k.objects.links RUN_QUEUE ++ e.wakes ++ at_back id (at_slice_end left e.goes) =
     s.queue ∙ rw d.queue (rw goes refl) in
     let cores : cores_of (slot_at n SCHEDULER) ≡ slice_set (cores_of (slot_at k.objects SCHEDULER)) core (on_core id left (at_slice_end left e.goes)) =
     s.cores ∙ rw d.scheduler (rw goes refl) in
-    rw (d.quiet.output, d.quiet.takes) (state_same _ _ _ _ _ _ rest.out rest.inputs objects queue cores)
+    state_same _ _ _ _ _ _ _ _ _ _ objects queue cores d.out d.inputs
 
 told_settled : (o n : Objects) (core id left : ℕ) (thread before : ThreadRecord) (done : Done) (content : ℕ → ℕ → ℕ) (i : ℕ) (a b : Bool) → (i == id) ≡ a → (i == SCHEDULER) ≡ b →
     Settles o n core id left thread done → slot_at o id ≡ Slot.Thread before → is_scheduler (slot_at o SCHEDULER) ≡ true → told (object_at content n i) ≡ told (object_at content o i)

@@ -9,9 +9,12 @@ use Rattle.plain_state.specs.CallRefusals.{refusal_of}
 use Rattle.plain_laws.specs.Places.{IsPlaced}
 use Rattle.plain_laws.specs.Laws.{AreInRange}
 use Rattle.plain_laws.specs.Sound.{HaveForms, NameWhatIs}
+use Rattle.plain_laws.specs.Whole as whole
 use Rattle.kobj_table.specs.Slots.{is_scheduler}
 use Rattle.kobj_table.specs.Objects.{Rest, slot_at, state_of, HasNoStrays}
 use Rattle.call_readings.specs.declared.devices.Devices.{Devices}
+use Rattle.pmem_model.specs.Memory.{Memory}
+use Rattle.call_readings.specs.Content.{Reads}
 use Rattle.call_readings.specs.Kernel.{world_of, IsCounted, IsAttached}
 use Rattle.kernel_calls.specs.declared.calls.Calls.{Calls}
 use Rattle.kernel_calls.specs.Callers.{IsCaller}
@@ -43,3 +46,21 @@ pub record Allowed (k : Calls) (me : ℕ) (thread : ThreadRecord) (call : Call) 
 pub record HeldWith (k : Calls) (devices : Devices) : Type 0 where
   pub held : Held k
   pub attached : IsAttached k.objects devices (world_of k.objects held.rest held.world)
+
+-- The kernel's values are a world's, which is sound: its running state is that of the objects, with the content of pages
+-- that the memory has; the numbers are those in use in it, and the devices are attached to it. The scheduler stands at
+-- its number, and no list but the run queue and those of objects has threads.
+pub record Holds (k : Calls) (devices : Devices) (m : Memory) (rest : Rest) (w : World) : Type 0 where
+  pub now : w.now ≡ state_of k.objects rest
+  pub sound : whole.IsSound w
+  pub counted : IsCounted k.numbers w
+  pub attached : IsAttached k.objects devices w
+  pub content : Reads rest.content m
+  pub scheduler : is_scheduler (slot_at k.objects SCHEDULER) ≡ true
+  pub strays : HasNoStrays k.objects
+
+-- some world is the kernel's
+pub record IsHeld (k : Calls) (devices : Devices) (m : Memory) : Type 0 where
+  pub world : World
+  pub rest : Rest
+  pub holds : Holds k devices m rest world

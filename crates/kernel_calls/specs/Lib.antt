@@ -4,3 +4,4 @@ pub mod Does
 pub mod Ticking
 pub mod Pages
 pub mod Instructions
+pub mod Needed

@@ -79,6 +79,20 @@ impl Done {
         Done::stops(thread, HALTED)
     }
 
+    /// A thread goes on at the next instruction, with its registers as they are.
+    pub(crate) fn goes_on(thread: &Thread) -> Done
+        ensures { Tells result (plain.goes_on (record { pc = plain.next_pc thread.now; x = thread.now.x })) }
+    {
+        Done {
+            regs: Regs {
+                pc: next_pc(thread),
+                x: thread.x,
+            },
+            goes: Goes::On,
+            wishes: false,
+        }
+    }
+
     /// A register is set, and the thread goes on at an address.
     pub(crate) fn sets(thread: &Thread, rd: u8, value: u32, pc: u32) -> Done
         requires { rd < REGISTERS }

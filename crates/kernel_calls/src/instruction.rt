@@ -1,6 +1,6 @@
 //! The instruction at a thread's pc, and what becomes of the thread.
 
-ghost use Rattle.std.specs.Prelude.{◌≡◌, ◌%◌, ◌<◌};
+ghost use Rattle.std.specs.Prelude.{◌≡◌, ◌%◌, ◌<◌, false};
 ghost use Rattle.sls_base.specs.declared.limits.TheConstants.{INSTRUCTION_BYTES, REGISTERS};
 ghost use Rattle.sls_base.specs.declared.rights.TheConstants.{READ, EXECUTE};
 ghost use Rattle.rv_table.specs.Table.{IsOneOf, load_ops};
@@ -8,15 +8,17 @@ ghost use Rattle.rv_core.specs.Effect.{size_of};
 ghost use Rattle.rv_core.specs.Ranges.{IsPlan};
 ghost use Rattle.plain_state.specs.Worlds.{World};
 ghost use Rattle.plain_state.specs.Instructions as plain;
+ghost use Rattle.plain_state.specs.Ticks.{stores_to};
 ghost use Rattle.kobj_table.specs.Objects.{Rest, state_of};
 ghost use Rattle.call_readings.specs.Content.{Reads, number_seen};
 ghost use Rattle.call_readings.specs.Kernel.{world_of, IsOfWorld};
 ghost use Rattle.kernel_calls.specs.Callers.{IsCaller};
-ghost use Rattle.kernel_calls.specs.Does.{Does, Keeps, Tells};
-ghost use Rattle.kernel_calls.specs.Instructions.{HeldOver, MayRun, ShowsHome, StoresNothing};
+ghost use Rattle.kernel_calls.specs.Does.{Keeps, Obeys, Tells};
+ghost use Rattle.kernel_calls.specs.Instructions.{HeldOver, MayCarryOut, MayRun, ShowsHome, StoresPages};
 
 use crate::calls::Calls;
 use crate::done::{Done, next_pc};
+use crate::store::store;
 use call_readings::{Devices, number_at};
 use kobj_table::Objects;
 use pmem_model::Pmem;
@@ -58,46 +60,66 @@ fn fetch(objects: &Objects, nvm: &Pmem, thread: &Thread) -> Option<u32>
 }
 
 impl Calls {
-    /// Carries out what an instruction of a thread comes to, which stores nothing.
+    /// Carries out what an instruction of a thread comes to, which may be carried out.
     fn carry_out_plan(
         &mut self,
         devices: &Devices,
-        nvm: &Pmem,
+        nvm: &mut Pmem,
         me: ObjId,
         thread: &Thread,
         plan: Plan,
     ) -> Done
-        requires held { HeldOver self.old devices.now nvm.now }
+        requires held { HeldOver self.old devices.now nvm.old }
         requires caller { IsCaller self.old.objects me thread.now }
         requires in_range { IsPlan plan }
-        requires no_store { StoresNothing self.old.objects nvm.now thread.now plan }
-        ensures does { (w : World) (rest : Rest)
-            → IsOfWorld self.old.objects self.old.numbers devices.now nvm.now rest w
-            → Does self.old self.new rest w
+        requires may_carry_out { MayCarryOut self.old.objects nvm.old thread.now plan }
+        ensures obeys { (w : World) (rest : Rest)
+            → IsOfWorld self.old.objects self.old.numbers devices.now nvm.old rest w
+            → (after : Rest) × Obeys self.old self.new rest after nvm.new w
             (plain.carried_out (world_of self.old.objects rest w) me thread.now plan) result }
+        ensures takes { (w : World) (rest : Rest)
+            → IsOfWorld self.old.objects self.old.numbers devices.now nvm.old rest w
+            → (plain.carried_out (world_of self.old.objects rest w) me thread.now plan).takes ≡ false }
+        ensures words { (w : World) (rest : Rest)
+            → IsOfWorld self.old.objects self.old.numbers devices.now nvm.old rest w
+            → StoresPages (stores_to (state_of self.old.objects rest)
+            (plain.carried_out (world_of self.old.objects rest w) me thread.now plan)) nvm.old nvm.new }
         ensures keeps { Keeps self.old self.new me result }
     {
+        page_bytes::stores_in_parts();
         match plan {
             Plan::Set { rd, value, pc } => Done::sets(thread, rd, value, pc),
             Plan::Load { op, rd, at } => load(&self.objects, nvm, thread, op, rd, at),
+            Plan::Store { op, at, value } => store(&self.objects, nvm, thread, op, at, value),
             Plan::Call => self.ecall(devices, me, thread),
             Plan::Stop(cause) => Done::stops(thread, cause),
-            // This stores, and isn't asked for here.
-            Plan::Store { .. } => Done::stops(thread, NO_ACCESS),
         }
     }
 
-    /// Does the instruction at the pc of a thread, which stores nothing: the call that the thread names, or what it
-    /// makes of registers and loads. The thread stops where it can't be fetched, and where its word is in no row of
-    /// the instruction table.
-    pub(crate) fn obey(&mut self, devices: &Devices, nvm: &Pmem, me: ObjId, thread: &Thread) -> Done
-        requires held { HeldOver self.old devices.now nvm.now }
+    /// Does the instruction at the pc of a thread: the call that the thread names, or what it makes of registers, loads
+    /// and stores. The thread stops where it can't be fetched, and where its word is in no row of the instruction
+    /// table.
+    pub(crate) fn obey(
+        &mut self,
+        devices: &Devices,
+        nvm: &mut Pmem,
+        me: ObjId,
+        thread: &Thread,
+    ) -> Done
+        requires held { HeldOver self.old devices.now nvm.old }
         requires caller { IsCaller self.old.objects me thread.now }
-        requires may_run { MayRun self.old.objects nvm.now thread.now }
-        ensures does { (w : World) (rest : Rest)
-            → IsOfWorld self.old.objects self.old.numbers devices.now nvm.now rest w
-            → Does self.old self.new rest w
+        requires may_run { MayRun self.old.objects nvm.old thread.now }
+        ensures obeys { (w : World) (rest : Rest)
+            → IsOfWorld self.old.objects self.old.numbers devices.now nvm.old rest w
+            → (after : Rest) × Obeys self.old self.new rest after nvm.new w
             (plain.instruction (world_of self.old.objects rest w) me thread.now) result }
+        ensures takes { (w : World) (rest : Rest)
+            → IsOfWorld self.old.objects self.old.numbers devices.now nvm.old rest w
+            → (plain.instruction (world_of self.old.objects rest w) me thread.now).takes ≡ false }
+        ensures words { (w : World) (rest : Rest)
+            → IsOfWorld self.old.objects self.old.numbers devices.now nvm.old rest w
+            → StoresPages (stores_to (state_of self.old.objects rest)
+            (plain.instruction (world_of self.old.objects rest w) me thread.now)) nvm.old nvm.new }
         ensures keeps { Keeps self.old self.new me result }
     {
         let Some(word) = fetch(&self.objects, nvm, thread) else {

@@ -10,8 +10,10 @@ mod instruction;
 mod lent;
 mod makers;
 mod memory;
+mod need;
 mod note_calls;
 mod space_calls;
+mod store;
 mod tick;
 
 pub use calls::Calls;

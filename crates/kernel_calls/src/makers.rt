@@ -7,6 +7,7 @@ ghost use Rattle.plain_state.specs.declared.calls.Refusal.{Refusal};
 ghost use Rattle.plain_state.specs.Objects.{Object};
 ghost use Rattle.plain_state.specs.Worlds.{World};
 ghost use Rattle.plain_state.specs.CallRefusals.{no_room};
+ghost use Rattle.sls_base.specs.declared.thread.Ring.{Ring};
 ghost use Rattle.kobj_table.specs.Objects.{Rest, state_of};
 ghost use Rattle.plain_state.specs.CallEffects as plain;
 ghost use Rattle.kobj_table.specs.Slots.{object_of};
@@ -26,8 +27,9 @@ use plain_state::{ANSWER, arg};
 use sls_base::{ALL_RIGHTS, OBJECTS, ObjId, REGISTERS, Thread, ThreadState};
 
 impl Calls {
-    /// Makes an object, to which the caller gets a capability with all rights.
+    /// Makes an object, which is no ring, and to which the caller gets a capability with all rights.
     pub(crate) fn make(&mut self, me: ObjId, thread: &Thread, slot: Slot) -> Done
+        requires { (ring : Ring) → slot ≢ Slot.Ring ring }
         ensures makes { (w : World) (rest : Rest) (object : Object)
             → IsCounted self.old.numbers (world_of self.old.objects rest w)
             → no_room (world_of self.old.objects rest w) thread.now Refusal.NoSlot ≡ false

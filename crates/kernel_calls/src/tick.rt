@@ -1,24 +1,27 @@
 //! Who runs on a core, and what becomes of it.
 
-ghost use Rattle.std.specs.Prelude.{◌≡◌, ◌≢◌, ◌<◌, false, length, Some, None, IfSome, IfNone, option_map};
+ghost use Rattle.std.specs.Prelude.{◌≡◌, ◌≢◌, ◌<◌, if◌then◌else◌, true, false, length, Some, None, IfSome, IfNone, option_map};
 ghost use Rattle.link_lists.specs.Lists.{list_at, IsFree};
 ghost use Rattle.ipc_note.specs.declared.lists.TheConstants.{RUN_QUEUE};
 ghost use Rattle.plain_state.specs.Worlds.{World};
 ghost use Rattle.plain_state.specs.Instructions.{instruction};
-ghost use Rattle.call_readings.specs.Kernel.{world_of, IsCounted, IsOfWorld};
+ghost use Rattle.call_readings.specs.Kernel.{world_of, IsOfWorld};
 ghost use Rattle.sls_base.specs.declared.thread.Thread.{Thread as ThreadRecord};
+ghost use Rattle.plain_state.specs.declared.label.Reply.TheVariants as ReplyNames;
 ghost use Rattle.plain_state.specs.States.{thread_at};
 ghost use Rattle.plain_state.specs.Ticks as plain;
 ghost use Rattle.plain_state.specs.Ticks.{Chosen};
-ghost use Rattle.kobj_table.specs.Slots.{cores_of, has_list, occupant_of};
+ghost use Rattle.kobj_table.specs.Slots.{cores_of, has_list, is_scheduler, occupant_of};
 ghost use Rattle.kobj_table.specs.Objects.{Rest, slot_at, state_of, HasNoStrays};
-ghost use Rattle.kernel_calls.specs.Kernel.{Held};
+ghost use Rattle.kernel_calls.specs.Kernel.{Held, Holds, IsHeld};
 ghost use Rattle.kernel_calls.specs.Callers.{IsCaller};
-ghost use Rattle.kernel_calls.specs.Instructions.{HeldOver, MayRun};
+ghost use Rattle.kernel_calls.specs.Instructions.{HeldOver, IsNow, MayRun, MovesNoBytes, StoresPages};
+ghost use Rattle.kernel_calls.specs.Needed.{IsPrepared};
 ghost use Rattle.kernel_calls.specs.Ticking.{Takes, Settles};
 
 use crate::calls::Calls;
 use crate::done::Done;
+use crate::need::pages_are_there;
 use call_readings::Devices;
 use plain_state::{Goes, Reply};
 use pmem_model::Pmem;
@@ -56,6 +59,17 @@ fn on_core(id: ObjId, left: u8, goes: Goes) -> Option<(ObjId, u8)>
     }
 }
 
+/// The reply of a tick that wasn't idle.
+fn reply_of(wishes: bool) -> Reply
+    ensures { result ≡ (if wishes then ReplyNames.Wished else ReplyNames.Retired) }
+{
+    if wishes {
+        Reply::Wished
+    } else {
+        Reply::Retired
+    }
+}
+
 impl Calls {
     /// Takes the thread that a core runs next, with what is left of its slice: its own, or the front of the run queue
     /// with a whole slice. It is None exactly where the core has none and the queue is empty. A tick begins so, and has
@@ -83,72 +97,73 @@ impl Calls {
         }
     }
 
-    /// A tick of a core: it takes a thread where it has none, the thread does one instruction, which stores nothing, and
-    /// its slice falls by one. A core that has no thread to run is idle. The reply says so, and whether the thread wishes
-    /// for a checkpoint.
-    pub fn tick(&mut self, devices: &Devices, nvm: &Pmem, core: CoreNo) -> Reply
+    /// A tick of a core: it takes a thread where it has none, the thread does one instruction, and its slice falls by
+    /// one. A core that has no thread to run is idle. The reply says so, and whether the thread wishes for a checkpoint.
+    pub fn tick(&mut self, devices: &Devices, nvm: &mut Pmem, core: CoreNo) -> Reply
         requires below { core < CORES }
         requires core { core < length (cores_of (slot_at self.old.objects SCHEDULER)) }
-        requires held { HeldOver self.old devices.now nvm.now }
-        requires may_run { (rest : Rest) (c : Chosen) → plain.chosen (state_of self.old.objects rest) core ≡ Some c
-            → MayRun self.old.objects nvm.now (thread_at (state_of self.old.objects rest) c.occupant.thread) }
-        ensures state { (w : World) (rest : Rest)
-            → IsOfWorld self.old.objects self.old.numbers devices.now nvm.now rest w
-            → state_of self.new.objects rest ≡ (plain.tick (world_of self.old.objects rest w) core).now }
-        ensures reply { (w : World) (rest : Rest)
-            → IsOfWorld self.old.objects self.old.numbers devices.now nvm.now rest w
-            → result ≡ plain.tick_reply (world_of self.old.objects rest w) core }
-        ensures counted { (w : World) (rest : Rest)
-            → IsOfWorld self.old.objects self.old.numbers devices.now nvm.now rest w
-            → IsCounted self.new.numbers (world_of self.new.objects rest w) }
-        ensures strays { HasNoStrays self.new.objects }
+        requires held { IsHeld self.old devices.now nvm.old }
+        requires prepared { (w : World) (rest : Rest) → Holds self.old devices.now nvm.old rest w
+            → IsPrepared self.old.objects nvm.old w core }
+        requires no_bytes { (rest : Rest) (c : Chosen) → plain.chosen (state_of self.old.objects rest) core ≡ Some c
+            → MovesNoBytes self.old.objects nvm.old (thread_at (state_of self.old.objects rest) c.occupant.thread) }
+        ensures holds { (w : World) (rest : Rest) → Holds self.old devices.now nvm.old rest w
+            → (after : Rest) × Holds self.new devices.now nvm.new after (plain.tick w core) }
+        ensures reply { (w : World) (rest : Rest) → Holds self.old devices.now nvm.old rest w
+            → result ≡ plain.tick_reply w core }
+        ensures words { (w : World) (rest : Rest) → Holds self.old devices.now nvm.old rest w
+            → StoresPages (plain.must_store w core) nvm.old nvm.new }
     {
-        // Their contracts say that neither objects nor what an instruction does depend on the run queue.
+        // Their contracts say that neither objects nor what an instruction does depend on the run queue, and that a
+        // tick keeps a world sound; and that an instruction whose tick is prepared has its pages.
         kobj_table::lists_alone();
         plain_laws::ticks::effect_depends_on_little();
+        plain_laws::whole::worlds_are_sound();
+        pages_are_there();
         let Some(next) = self.take_next(core) else {
             return Reply::Idle;
         };
         let thread = self.objects.thread_or_zeros(next.0);
-        if self.run_instruction(devices, nvm, core, next, &thread) {
-            Reply::Wished
-        } else {
-            Reply::Retired
-        }
+        let wishes = self.run_instruction(devices, nvm, core, next, &thread);
+        reply_of(wishes)
     }
 
-    /// Lets a thread that a core has taken do its instruction, which stores nothing, and puts it down. It says whether
-    /// the thread wishes for a checkpoint.
+    /// Lets a thread that a core has taken do its instruction, and puts it down. It says whether the thread wishes for a
+    /// checkpoint.
     pub(crate) fn run_instruction(
         &mut self,
         devices: &Devices,
-        nvm: &Pmem,
+        nvm: &mut Pmem,
         core: CoreNo,
         next: (ObjId, u8),
         thread: &Thread,
     ) -> bool
         requires core { core < CORES }
-        requires held { HeldOver self.old devices.now nvm.now }
+        requires held { HeldOver self.old devices.now nvm.old }
         requires caller { IsCaller self.old.objects next.0 thread.now }
-        requires may_run { MayRun self.old.objects nvm.now thread.now }
-        ensures state { (w : World) (rest : Rest)
-            → IsOfWorld self.old.objects self.old.numbers devices.now nvm.now rest w
-            → state_of self.new.objects rest ≡ plain.state_of_effect (state_of self.old.objects rest) core
+        requires may_run { MayRun self.old.objects nvm.old thread.now }
+        ensures is_now { (w : World) (rest : Rest)
+            → IsOfWorld self.old.objects self.old.numbers devices.now nvm.old rest w
+            → (after : Rest) × IsNow self.new devices.now nvm.new after w
+            (plain.state_of_effect (state_of self.old.objects rest) core
             (record {
               occupant = record { thread = next.0; slice = next.1 };
               queue = list_at self.old.objects.links RUN_QUEUE;
-            }) (instruction (world_of self.old.objects rest w) next.0 thread.now) }
+            }) (instruction (world_of self.old.objects rest w) next.0 thread.now)) }
         ensures wishes { (w : World) (rest : Rest)
-            → IsOfWorld self.old.objects self.old.numbers devices.now nvm.now rest w
+            → IsOfWorld self.old.objects self.old.numbers devices.now nvm.old rest w
             → result ≡ (instruction (world_of self.old.objects rest w) next.0 thread.now).wishes }
+        ensures words { (w : World) (rest : Rest)
+            → IsOfWorld self.old.objects self.old.numbers devices.now nvm.old rest w
+            → StoresPages (plain.stores_to (state_of self.old.objects rest)
+            (instruction (world_of self.old.objects rest w) next.0 thread.now)) nvm.old nvm.new }
+        ensures scheduler { is_scheduler (slot_at self.new.objects SCHEDULER) ≡ true }
         ensures strays { HasNoStrays self.new.objects }
-        ensures counted { (w : World) (rest : Rest)
-            → IsOfWorld self.old.objects self.old.numbers devices.now nvm.now rest w
-            → IsCounted self.new.numbers (world_of self.new.objects rest w) }
     {
         let (id, slice) = next;
         let done = self.obey(devices, nvm, id, thread);
-        self.settle(core, id, slice.saturating_sub(1), thread, &done);
+        let left = slice.saturating_sub(1);
+        self.settle(core, id, left, thread, &done);
         done.wishes
     }
 

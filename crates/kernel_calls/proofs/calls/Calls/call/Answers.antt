@@ -24,6 +24,7 @@ use Rattle.kernel_calls.proofs.Places.{free_unlisted, asleep_unlisted}
 use Rattle.kernel_calls.proofs.Queues.{relisted, strays_moved}
 use Rattle.kernel_calls.proofs.Threads.{apart, caller_waits, not_back}
 use Rattle.kernel_calls.proofs.Connections.{serving_is, not_serving, not_server, call_wakes, call_joins}
+use Rattle.kernel_calls.proofs.Kept.{KeepsRings, rings_put}
 use Rattle.kernel_calls.proofs.calls.Calls.call.Goals as goal
 
 pub returns-in_default-clause-does : goal.returns-in_default-clause-does
@@ -119,6 +120,8 @@ returns-clause-keeps c =
     let other : server ≢ c.args.me = not_server c.args.me server c.in-Some.connection.client (list_at o.links id) (rw slot_is at free) in
     let server_apart : server ≢ id = λ same. (let t : slot_at o id ≡ Slot.Thread c.in-Some-thread.server = rw (sym same) server_is in let f = slot_is in cc) in
     let there : slot_at c.put.new.self server ≡ Slot.Thread c.in-Some-thread.server = puts.others server server_apart ∙ server_is in
+    let rings : KeepsRings o c.set_thread.new.self =
+    λ i ring is. rings_put puts (λ other same. cc) i ring (rings_put c.set_thread.ensures.puts (λ other same. cc) i ring is) in
     elim (cases_Bool (is_serving c.in-Some-thread.server.state id)) [
       | inl serving ↦
           (let is = serving_is c.in-Some-thread.server.state id serving in
@@ -128,6 +131,7 @@ returns-clause-keeps c =
             caller = c.set_thread.ensures.puts.others c.args.me (λ same. other (sym same)) ∙ puts.others c.args.me (apart o c.args.me id (rw c.requires.caller.there refl) (rw slot_is refl));
             strays = c.set_thread.ensures.strays strays (λ not_queue no_list. strays server not_queue (rw there refl));
             free = λ left back. absurd (not_back thread _ (Served id) left c.of_caller.ensures (c.call.ensures.served other is) refl back);
+            rings = rings;
           })
       | inr busy ↦
           (let not = not_serving c.in-Some-thread.server.state id busy in
@@ -137,5 +141,6 @@ returns-clause-keeps c =
             caller = c.set_thread.ensures.puts.others c.args.me (λ same. other (sym same)) ∙ puts.others c.args.me (apart o c.args.me id (rw c.requires.caller.there refl) (rw slot_is refl));
             strays = c.set_thread.ensures.strays strays (λ not_queue no_list. strays server not_queue (rw there refl));
             free = λ left back. absurd (not_back thread _ (Calling id) left c.of_caller.ensures (c.call.ensures.waits other not) refl back);
+            rings = rings;
           })
     ]

@@ -17,6 +17,7 @@ use Rattle.kernel_calls.proofs.Frames.{changed, one_put, answered}
 use Rattle.kernel_calls.proofs.Caps.{caps_of, not_full, all_held}
 use Rattle.kernel_calls.proofs.Groups.{copy_is}
 use Rattle.kernel_calls.proofs.Threads.{apart}
+use Rattle.kernel_calls.proofs.Kept.{rings_put}
 use Rattle.kernel_calls.proofs.calls.Calls.cap_copy.Goals.{in_default-via-in-Some+in_default, in_default-via-in_default}
 use Rattle.kernel_calls.proofs.calls.Calls.cap_copy.Goals as goal
 
@@ -62,4 +63,5 @@ returns-clause-keeps c a =
       caller = c.put.ensures.puts.others c.args.me (apart c.args.self.now.objects c.args.me c.id_named-id.result (rw a.caller.there refl) (rw slot_is refl));
       strays = c.put.ensures.strays a.held.strays (λ other no_list. a.held.strays c.id_named-id.result other (rw slot_is refl));
       free = λ left back. rw c.put.ensures.puts.links a.caller.free;
+      rings = rings_put c.put.ensures.puts (λ ring same. cc);
     }

@@ -19,6 +19,7 @@ use Rattle.kernel_calls.proofs.Caps.{caps_of, not_full, lowest, with_cap_is}
 use Rattle.kernel_calls.proofs.Places.{free_unlisted, none_listed}
 use Rattle.kernel_calls.proofs.Made.{none_there, not_there, no_group, none_first, first_is}
 use Rattle.kernel_calls.proofs.Threads.{apart}
+use Rattle.kernel_calls.proofs.Kept.{rings_put}
 use Rattle.kernel_calls.proofs.calls.Calls.make.Goals.{in_default-via-in-Some+in_default, in_default-via-in_default}
 use Rattle.kernel_calls.proofs.calls.Calls.make.Goals as goal
 
@@ -100,6 +101,7 @@ returns-clause-keeps c held caller =
           ∙ c.put.ensures.puts.others c.args.me (apart o c.args.me c.in-Some-Some.id (rw caller.there refl) (rw empty refl));
       strays = c.put-2.ensures.strays strays (λ other no_list. strays c.args.thread.now.group other (rw group_is refl));
       free = λ left back. rw (c.put-2.ensures.puts.links ∙ c.put.ensures.puts.links) caller.free;
+      rings = λ i ring is. rings_put c.put.ensures.puts c.requires i ring (rings_put c.put-2.ensures.puts (λ other same. cc) i ring is);
     }
 
 pub returns-clause-fresh : goal.returns-clause-fresh

@@ -14,6 +14,7 @@ use Rattle.kernel_calls.proofs.Unrefused.{met_by}
 use Rattle.kernel_calls.proofs.Frames.{changed, one_put, answered}
 use Rattle.kernel_calls.proofs.Spaces.{map_known, map_is, not_overlapping}
 use Rattle.kernel_calls.proofs.Threads.{apart}
+use Rattle.kernel_calls.proofs.Kept.{rings_put}
 use Rattle.kernel_calls.proofs.calls.Calls.map.Goals as goal
 
 pub returns-in_default-clause-does : goal.returns-in_default-clause-does
@@ -90,4 +91,5 @@ returns-clause-keeps c = record {
   caller = c.map_region.ensures.puts.others c.args.me (apart c.args.self.now.objects c.args.me c.id_named-id.result (rw c.requires.caller.there refl) (rw c.in-Some.ensures.some refl));
   strays = c.map_region.ensures.strays c.requires.held.strays;
   free = λ left back. rw c.map_region.ensures.puts.links c.requires.caller.free;
+  rings = rings_put c.map_region.ensures.puts (λ ring same. cc);
 }

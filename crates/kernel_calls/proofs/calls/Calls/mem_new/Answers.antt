@@ -36,4 +36,4 @@ returns-clause-does c w rest h e a =
 pub returns-clause-keeps : goal.returns-clause-keeps
 returns-clause-keeps c a =
     let kept = c.make-done.ensures.keeps a.held a.caller in
-    record { caller = kept.caller; strays = kept.strays; free = kept.free }
+    record { caller = kept.caller; strays = kept.strays; free = kept.free; rings = kept.rings }

@@ -3,26 +3,41 @@ use Rattle.std.specs.Prelude.{Option, option_map}
 use Rattle.rv_table.specs.declared.Instr.{Instr}
 use Rattle.rv_core.specs.Effect.{effect}
 use Rattle.rv_core.specs.declared.registers.Plan.{Plan}
-use Rattle.kobj_table.specs.Objects.{state_of}
+use Rattle.kobj_table.specs.Objects.{Rest, state_of}
 use Rattle.call_readings.specs.Kernel.{world_of}
 use Rattle.plain_state.specs.Effects.{Effect, regs_of}
 use Rattle.plain_state.specs.Instructions.{fetched, with_fetch, obeyed, carried_out}
-use Rattle.kernel_calls.specs.Does.{Does}
-use Rattle.kernel_calls.proofs.Obeyed.{stopped, with_places, nothing_fetched, word_fetched, plan_fetched}
+use Rattle.plain_state.specs.Ticks.{stores_to}
+use Rattle.kernel_calls.specs.Does.{Obeys}
+use Rattle.kernel_calls.specs.Instructions.{StoresPages}
+use Rattle.kernel_calls.proofs.Obeyed.{stopped, obeyed_quietly, with_places, nothing_fetched, word_fetched, plan_fetched}
+use Rattle.kernel_calls.proofs.StoredPages.{none_stored}
 use Rattle.kernel_calls.proofs.calls.Calls.obey.Goals as goal
 
-pub returns-in_default-clause-does : goal.returns-in_default-clause-does
-unfolding world_of
-returns-in_default-clause-does c w rest found =
-    let k = c.args.self.now in
-    let world = world_of k.objects rest w in
-    let seen = sym c.in_default.is ∙ c.fetch.ensures rest found.content in
-    subst (λ (e : Effect). Does k k rest w e c.stops.result) (sym (nothing_fetched world c.args.me c.args.thread.now seen))
-    (stopped c.args.thread.now _ c.stops.ensures found.counted)
+-- Where nothing can be fetched.
 
-pub returns-in_default-decode-clause-does : goal.returns-in_default-decode-clause-does
+pub returns-in_default-clause-obeys : goal.returns-in_default-clause-obeys
 unfolding world_of
-returns-in_default-decode-clause-does c w rest found =
+returns-in_default-clause-obeys c w rest found =
+    let k = c.args.self.now in
+    let seen = sym c.in_default.is ∙ c.fetch.ensures rest found.content in
+    subst (λ (e : Effect). (after : Rest) × Obeys k k rest after c.args.nvm.now w e c.stops.result) (sym (nothing_fetched (world_of k.objects rest w) c.args.me c.args.thread.now seen))
+    (obeyed_quietly k k c.args.devices.now c.args.nvm.now rest w _ c.stops.result found (stopped c.args.thread.now _ c.stops.ensures found.counted) (λ id ring e. e))
+
+pub returns-in_default-clause-takes : goal.returns-in_default-clause-takes
+unfolding world_of
+returns-in_default-clause-takes c w rest found =
+    let seen = sym c.in_default.is ∙ c.fetch.ensures rest found.content in
+    ap (λ (e : Effect). e.takes) (nothing_fetched (world_of c.args.self.now.objects rest w) c.args.me c.args.thread.now seen)
+
+pub returns-in_default-clause-words : goal.returns-in_default-clause-words
+returns-in_default-clause-words c w rest found = none_stored _ c.args.nvm.now
+
+-- Where the word is in no row.
+
+pub returns-in_default-decode-clause-obeys : goal.returns-in_default-decode-clause-obeys
+unfolding world_of
+returns-in_default-decode-clause-obeys c w rest found =
     let k = c.args.self.now in
     let world = world_of k.objects rest w in
     let thread = c.args.thread.now in
@@ -30,11 +45,27 @@ returns-in_default-decode-clause-does c w rest found =
     let none = sym c.decode.ensures.decoded ∙ c.in_default-decode.is in
     let is = word_fetched world c.args.me thread c.in-Some.word seen
     ∙ ap (λ (i : Option Instr). with_fetch (fetched world.now thread) (obeyed world c.args.me thread i)) none in
-    subst (λ (e : Effect). Does k k rest w e c.stops-in_default-decode.result) (sym is)
-    (with_places (fetched world.now thread) (stopped thread _ c.stops-in_default-decode.ensures found.counted))
+    subst (λ (e : Effect). (after : Rest) × Obeys k k rest after c.args.nvm.now w e c.stops-in_default-decode.result) (sym is)
+    (with_places (fetched world.now thread)
+    (obeyed_quietly k k c.args.devices.now c.args.nvm.now rest w _ c.stops-in_default-decode.result found (stopped thread _ c.stops-in_default-decode.ensures found.counted) (λ id ring e. e)))
 
-pub carry_out_plan-requires-clause-no_store : goal.carry_out_plan-requires-clause-no_store
-carry_out_plan-requires-clause-no_store c =
+pub returns-in_default-decode-clause-takes : goal.returns-in_default-decode-clause-takes
+unfolding world_of
+returns-in_default-decode-clause-takes c w rest found =
+    let world = world_of c.args.self.now.objects rest w in
+    let thread = c.args.thread.now in
+    let seen = sym c.in-Some.is ∙ c.fetch.ensures rest found.content in
+    let none = sym c.decode.ensures.decoded ∙ c.in_default-decode.is in
+    ap (λ (e : Effect). e.takes) (word_fetched world c.args.me thread c.in-Some.word seen)
+    ∙ ap (λ (i : Option Instr). (obeyed world c.args.me thread i).takes) none
+
+pub returns-in_default-decode-clause-words : goal.returns-in_default-decode-clause-words
+returns-in_default-decode-clause-words c w rest found = none_stored _ c.args.nvm.now
+
+-- Where it is an instruction.
+
+pub carry_out_plan-requires-clause-may_carry_out : goal.carry_out_plan-requires-clause-may_carry_out
+carry_out_plan-requires-clause-may_carry_out c =
     let thread = c.args.thread.now in
     let rest = c.requires.held.held.rest in
     let reads = c.requires.held.found.content in
@@ -43,11 +74,11 @@ carry_out_plan-requires-clause-no_store c =
     let is = plan_fetched (state_of c.args.self.now.objects rest) thread c.in-Some.word seen
     ∙ ap (λ (i : Option Instr). option_map (λ instr. effect instr (regs_of thread)) i) some
     ∙ ap (λ (p : Plan). Some p) (sym c.plan.ensures.effect) in
-    c.requires.may_run.no_store rest c.plan.result reads is
+    c.requires.may_run.carried_out rest c.plan.result reads is
 
-pub returns-clause-does : goal.returns-clause-does
+pub returns-clause-obeys : goal.returns-clause-obeys
 unfolding world_of
-returns-clause-does c w rest found =
+returns-clause-obeys c w rest found =
     let k = c.args.self.now in
     let world = world_of k.objects rest w in
     let thread = c.args.thread.now in
@@ -56,8 +87,33 @@ returns-clause-does c w rest found =
     let is = word_fetched world c.args.me thread c.in-Some.word seen
     ∙ ap (λ (i : Option Instr). with_fetch (fetched world.now thread) (obeyed world c.args.me thread i)) some
     ∙ ap (λ (p : Plan). with_fetch (fetched world.now thread) (carried_out world c.args.me thread p)) (sym c.plan.ensures.effect) in
-    subst (λ (e : Effect). Does k c.carry_out_plan.new.self rest w e c.carry_out_plan.result) (sym is)
-    (with_places (fetched world.now thread) (c.carry_out_plan.ensures.does w rest found))
+    subst (λ (e : Effect). (after : Rest) × Obeys k c.carry_out_plan.new.self rest after c.carry_out_plan.new.nvm w e c.carry_out_plan.result) (sym is)
+    (with_places (fetched world.now thread) (c.carry_out_plan.ensures.obeys w rest found))
+
+pub returns-clause-takes : goal.returns-clause-takes
+unfolding world_of
+returns-clause-takes c w rest found =
+    let world = world_of c.args.self.now.objects rest w in
+    let thread = c.args.thread.now in
+    let seen = sym c.in-Some.is ∙ c.fetch.ensures rest found.content in
+    let some = sym c.decode.ensures.decoded ∙ c.in-Some-decode.is in
+    ap (λ (e : Effect). e.takes) (word_fetched world c.args.me thread c.in-Some.word seen)
+    ∙ ap (λ (i : Option Instr). (obeyed world c.args.me thread i).takes) some
+    ∙ ap (λ (p : Plan). (carried_out world c.args.me thread p).takes) (sym c.plan.ensures.effect)
+    ∙ c.carry_out_plan.ensures.takes w rest found
+
+pub returns-clause-words : goal.returns-clause-words
+unfolding world_of
+returns-clause-words c w rest found =
+    let k = c.args.self.now in
+    let world = world_of k.objects rest w in
+    let thread = c.args.thread.now in
+    let seen = sym c.in-Some.is ∙ c.fetch.ensures rest found.content in
+    let some = sym c.decode.ensures.decoded ∙ c.in-Some-decode.is in
+    let is = word_fetched world c.args.me thread c.in-Some.word seen
+    ∙ ap (λ (i : Option Instr). with_fetch (fetched world.now thread) (obeyed world c.args.me thread i)) some
+    ∙ ap (λ (p : Plan). with_fetch (fetched world.now thread) (carried_out world c.args.me thread p)) (sym c.plan.ensures.effect) in
+    subst (λ (e : Effect). StoresPages (stores_to (state_of k.objects rest) e) c.args.nvm.now c.carry_out_plan.new.nvm) (sym is) (c.carry_out_plan.ensures.words w rest found)
 
 pub fetch-requires-clause-aligned : goal.fetch-requires-clause-aligned
 unfolding state_of

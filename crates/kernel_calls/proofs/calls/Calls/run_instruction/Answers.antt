@@ -3,28 +3,35 @@ use Rattle.sls_base.specs.declared.thread.Thread.{Thread as ThreadRecord}
 use Rattle.kobj_table.specs.Objects.{state_of}
 use Rattle.plain_state.specs.States.{thread_at}
 use Rattle.kernel_calls.specs.Ticking.{Settles}
-use Rattle.kernel_calls.proofs.Ticks.{ticked, settled_counted}
+use Rattle.kernel_calls.proofs.Settled.{now_settled, scheduler_obeyed}
 use Rattle.kernel_calls.proofs.calls.Calls.run_instruction.Goals as goal
 
 pub settle-requires-clause-free : goal.settle-requires-clause-free
-settle-requires-clause-free c back = c.obey-done.ensures.keeps.free c.saturating_sub.result back
+settle-requires-clause-free c back = c.obey-done.ensures.keeps.free c.saturating_sub-left.result back
 
-pub returns-clause-state : goal.returns-clause-state
+pub returns-clause-is_now : goal.returns-clause-is_now
 unfolding state_of
-returns-clause-state c w rest found =
-    let o = c.args.self.now.objects in
+returns-clause-is_now c w rest found =
+    let k = c.args.self.now in
     let id = c.args.next.0 in
-    let m = c.obey-done.new.self.objects in
-    let n = c.settle.new.self.objects in
-    let thread_is : c.args.thread.now ≡ thread_at (state_of o rest) id = rw c.requires.caller.there refl in
-    let left_is : c.saturating_sub.result ≡ c.args.next.1 - 1 = c.saturating_sub.ensures in
-    let settles = subst (λ (t : ThreadRecord). Settles m n c.args.core id (c.args.next.1 - 1) t c.obey-done.result) thread_is
-    (subst (λ (left : ℕ). Settles m n c.args.core id left c.args.thread.now c.obey-done.result) left_is c.settle.ensures.settles) in
-    ticked c.args.self.now c.obey-done.new.self n rest w c.args.core id c.args.next.1 _ c.obey-done.result (c.obey-done.ensures.does w rest found) settles c.requires.held.held.scheduler
-
-pub returns-clause-counted : goal.returns-clause-counted
-returns-clause-counted c w rest found =
-    let does = c.obey-done.ensures.does w rest found in
     let m = c.obey-done.new.self in
-    rw c.settle.ensures.numbers (settled_counted m.numbers m.objects c.settle.new.self.objects rest w c.args.core c.args.next.0 c.saturating_sub.result c.args.thread.now c.args.thread.now c.obey-done.result c.settle.ensures.settles
-    (c.obey-done.ensures.keeps.caller ∙ c.requires.caller.there) (rw does.scheduler c.requires.held.held.scheduler) does.counted)
+    let n = c.settle.new.self in
+    let thread_is : c.args.thread.now ≡ thread_at (state_of k.objects rest) id = rw c.requires.caller.there refl in
+    let left_is : c.saturating_sub-left.result ≡ c.args.next.1 - 1 = c.saturating_sub-left.ensures in
+    let settles = subst (λ (t : ThreadRecord). Settles m.objects n.objects c.args.core id (c.args.next.1 - 1) t c.obey-done.result) thread_is
+    (subst (λ (left : ℕ). Settles m.objects n.objects c.args.core id left c.args.thread.now c.obey-done.result) left_is c.settle.ensures.settles) in
+    let obeys = c.obey-done.ensures.obeys w rest found in (
+      obeys.0,
+      now_settled k m n rest obeys.0 c.obey-done.new.nvm w _ c.obey-done.result obeys.1 c.args.devices.now c.args.core id c.args.next.1 c.args.thread.now
+          (c.obey-done.ensures.keeps.caller ∙ c.requires.caller.there) settles c.requires.held.held.scheduler c.args.nvm.now (c.obey-done.ensures.takes w rest found) c.settle.ensures.numbers found,
+    )
+
+pub returns-clause-wishes : goal.returns-clause-wishes
+returns-clause-wishes c w rest found = (c.obey-done.ensures.obeys w rest found).1.caller.wishes
+
+pub returns-clause-scheduler : goal.returns-clause-scheduler
+returns-clause-scheduler c =
+    let held = c.requires.held in
+    let obeys = c.obey-done.ensures.obeys held.held.world held.held.rest held.found in
+    c.settle.ensures.settles.scheduler
+    ∙ scheduler_obeyed c.args.self.now c.obey-done.new.self c.settle.new.self held.held.rest obeys.0 c.obey-done.new.nvm held.held.world _ c.obey-done.result obeys.1 held.held.scheduler

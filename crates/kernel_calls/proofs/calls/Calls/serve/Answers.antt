@@ -29,6 +29,7 @@ use Rattle.kernel_calls.proofs.Places.{listed, free_unlisted, asleep_unlisted, c
 use Rattle.kernel_calls.proofs.Queues.{relisted, strays_moved, with_links, given_back}
 use Rattle.kernel_calls.proofs.Threads.{apart, is_thread_slot, caller_waits, caller_handed, not_back}
 use Rattle.kernel_calls.proofs.Connections.{serve_is, is_its_server, cases_option, beside_is, is_served, in_range, put_served}
+use Rattle.kernel_calls.proofs.Kept.{KeepsRings, rings_put, rings_lent}
 use Rattle.kernel_calls.proofs.calls.Calls.serve.Goals as goal
 
 pub returns-in_default-clause-does : goal.returns-in_default-clause-does
@@ -209,6 +210,9 @@ returns-clause-keeps c =
     let lent = given_back (with_links o links) c.give_back.new.objects served c.serve.new.client moved client_slot c.give_back.ensures.some c.give_back.ensures.none c.give_back.ensures.strays in
     let strays = c.put.ensures.strays lent.0 (λ not_queue no_list. absurd (false≢true (sym no_list))) in
     let put_links = puts.links ∙ lent.1 in
+    let rings : KeepsRings o c.give_back-2.new.objects =
+    λ i ring is. rings_lent (with_links o links) c.give_back.new.objects served c.serve.new.client c.give_back.ensures.some c.give_back.ensures.none i ring (rings_put puts (λ other same. cc) i ring
+    (rings_lent c.put.new.self c.give_back-2.new.objects c.first-first.result c.serve.new.next c.give_back-2.ensures.some c.give_back-2.ensures.none i ring is)) in
     let not_client : served ≡ Some me → ⊥ =
     λ is. (let slot = is_thread_slot held.rest.content (slot_at o me) (list_at o.links me) (Served id) (is_served o held.rest id me c.in-Some.connection held.sound.placed slot_is is) in
     not_served thread id c.requires.caller.awake (slot_state o me me id thread slot.0 refl c.requires.caller.there slot.1 ∙ slot.2)) in
@@ -221,6 +225,7 @@ returns-clause-keeps c =
             caller = rw n_is stays;
             strays = rw n_is strays;
             free = λ left back. absurd (not_back thread _ (Serving id) left c.of_caller.ensures (c.serve.ensures.serving is_me empty) refl back);
+            rings = rings;
           })
       | inr waiting ↦
           (let next = waiting.0 in
@@ -243,5 +248,6 @@ returns-clause-keeps c =
             caller = back.others me (λ same. c.requires.caller.free id (rw (is, same) (0, omega arith, refl))) ∙ stays;
             strays = (rw first_is at c.give_back-2.ensures.strays) strays (λ not_queue no_list. none_at not_queue);
             free = λ left at_back. rw (back.links, put_links) free;
+            rings = rings;
           })
     ]

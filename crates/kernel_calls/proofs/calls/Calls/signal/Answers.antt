@@ -21,6 +21,7 @@ use Rattle.kernel_calls.proofs.Places.{listed, cases_list}
 use Rattle.kernel_calls.proofs.Queues.{relisted, strays_moved}
 use Rattle.kernel_calls.proofs.Threads.{apart, is_thread_slot, caller_answered}
 use Rattle.kernel_calls.proofs.Notes.{signal_wakes, signal_counts, rises, not_greatest}
+use Rattle.kernel_calls.proofs.Kept.{KeepsRings, rings_put, rings_lent}
 use Rattle.kernel_calls.proofs.calls.Calls.signal.Goals as goal
 
 pub returns-in_default-clause-does : goal.returns-in_default-clause-does
@@ -88,12 +89,14 @@ returns-clause-keeps c a =
     let puts = c.put.ensures.puts in
     let has : has_list (slot_at o id) ≡ true = rw slot_is refl in
     let free = c.signal.ensures.free c.args.me a.caller.free in
+    let rings : KeepsRings o c.give_back.new.objects =
+    λ i ring is. rings_put puts (λ other same. cc) i ring (rings_lent c.put.new.self c.give_back.new.objects c.first-first.result c.signal.new.waiter c.give_back.ensures.some c.give_back.ensures.none i ring is) in
     elim (cases_list (list_at o.links id)) [
       | inl empty ↦
           (let none : c.first-first.result ≡ None = c.first-first.ensures.first ∙ ap (λ (l : List ℕ). slice_get l 0) empty in
           let back = rw none at c.give_back.ensures.none in
           let moved = strays_moved o c.signal.new.links id has (λ i other not_queue. ap (λ (l : List (List ℕ)). list_at l i) (c.signal.ensures.nobody empty)) a.held.strays in
-          record { caller = rw back (puts.others c.args.me (apart o c.args.me id (rw a.caller.there refl) (rw slot_is refl))); strays = rw back (c.put.ensures.strays moved (λ other no_list. absurd (false≢true (sym no_list)))); free = λ left at_back. rw (back, puts.links) free })
+          record { caller = rw back (puts.others c.args.me (apart o c.args.me id (rw a.caller.there refl) (rw slot_is refl))); strays = rw back (c.put.ensures.strays moved (λ other no_list. absurd (false≢true (sym no_list)))); free = λ left at_back. rw (back, puts.links) free; rings = rings })
       | inr waiting ↦
           (let first = waiting.0 in
           let is = waiting.2 in
@@ -109,5 +112,6 @@ returns-clause-keeps c a =
             caller = back.others c.args.me (λ same. a.caller.free id (rw (is, same) (0, omega arith, refl))) ∙ puts.others c.args.me (apart o c.args.me id (rw a.caller.there refl) (rw slot_is refl));
             strays = (rw first_is at c.give_back.ensures.strays) strays (λ other no_list. strays first other (rw thread_is refl));
             free = λ left at_back. rw (back.links, puts.links) free;
+            rings = rings;
           })
     ]

@@ -18,6 +18,7 @@ use Rattle.kernel_calls.proofs.Frames.{changed, one_put, no_more, not_scheduler}
 use Rattle.kernel_calls.proofs.Queues.{relisted, strays_moved}
 use Rattle.kernel_calls.proofs.Threads.{apart, caller_answered, caller_waits, not_back}
 use Rattle.kernel_calls.proofs.Notes.{wait_waits, wait_takes}
+use Rattle.kernel_calls.proofs.Kept.{rings_put}
 use Rattle.kernel_calls.proofs.calls.Calls.wait.Goals as goal
 
 pub returns-in_default-clause-does : goal.returns-in_default-clause-does
@@ -79,6 +80,7 @@ returns-clause-keeps c a =
             caller = puts.others c.args.me (apart o c.args.me id (rw a.caller.there refl) (rw slot_is refl));
             strays = c.put.ensures.strays (strays_moved o c.wait.new.links id has (λ i other not_queue. joined.others i other) a.held.strays) (λ other no_list. absurd (false≢true (sym no_list)));
             free = λ left back. absurd (not_back thread _ (Waiting id) left c.of_caller.ensures (c.wait.ensures.waits zero_is) refl back);
+            rings = rings_put puts (λ ring same. cc);
           })
       | inr some ↦
           (let kept = c.wait.ensures.kept (eqb-false count 0 some) in
@@ -86,5 +88,6 @@ returns-clause-keeps c a =
             caller = puts.others c.args.me (apart o c.args.me id (rw a.caller.there refl) (rw slot_is refl));
             strays = c.put.ensures.strays (strays_moved o c.wait.new.links id has (λ i other not_queue. ap (λ (l : List (List ℕ)). list_at l i) kept) a.held.strays) (λ other no_list. absurd (false≢true (sym no_list)));
             free = λ left back. rw (puts.links, kept) a.caller.free;
+            rings = rings_put puts (λ ring same. cc);
           })
     ]
