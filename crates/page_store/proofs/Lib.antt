@@ -4,3 +4,4 @@ pub mod Moves
 pub mod Steps
 pub mod BackLaws
 pub mod BackSteps
+pub mod Fewer

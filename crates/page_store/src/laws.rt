@@ -1,6 +1,6 @@
 //! Laws. Each of these functions does nothing: its contract is the law.
 
-ghost use Rattle.std.specs.Prelude.{◌≡◌, ◌≢◌, ◌+◌, ◌<◌, ◌≤◌, ℕ, Option, Some, None};
+ghost use Rattle.std.specs.Prelude.{◌≡◌, ◌≢◌, ◌⊎◌, ◌+◌, ◌<◌, ◌≤◌, ℕ, Option, Some, None};
 ghost use Rattle.sls_base.specs.declared.limits.TheConstants.{FRAME_WORDS, PAGES};
 ghost use Rattle.sls_base.specs.declared.fixed.TheConstants.{LEADER};
 ghost use Rattle.pmem_model.specs.Words.{Word};
@@ -39,6 +39,13 @@ pub fn page_versions()
     ensures same { (s : PageStore) (f : ℕ → Word) (v : ℕ) (saved now same next : ℕ → Option (ℕ → ℕ)) (phase : Phase)
         → ((page : ℕ) → page < PAGES → (same page ≡ saved page) × (next page ≡ now page))
         → PagesShow s f v saved now phase → PagesShow s f v same next phase }
+{}
+
+/// Of the saved pages some may be left out, which no version needs any more.
+pub fn saved_pages_may_be_fewer()
+    ensures { (s : PageStore) (f : ℕ → Word) (v : ℕ) (saved now fewer : ℕ → Option (ℕ → ℕ)) (phase : Phase)
+        → ((page : ℕ) → page < PAGES → (fewer page ≡ saved page) ⊎ (fewer page ≡ None))
+        → PagesShow s f v saved now phase → PagesShow s f v fewer now phase }
 {}
 
 /// What the states say of the words of a page. A protected page's runtime frame has no dirty word, and no slot has the

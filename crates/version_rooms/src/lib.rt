@@ -1,0 +1,8 @@
+//! All rooms of the persistent memory together: the version word, the numbers in use, the objects and the pages, from one
+//! committed version to the next.
+#![tactic(auto)]
+
+pub mod laws;
+mod rooms;
+
+pub use rooms::Rooms;
