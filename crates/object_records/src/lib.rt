@@ -1,0 +1,13 @@
+//! Between the objects of the running kernel and their records.
+#![tactic(auto)]
+
+mod copies;
+pub mod laws;
+mod putting;
+mod taking;
+
+pub use putting::put_back;
+pub use taking::record_at;
+
+#[cfg(test)]
+mod tests;
