@@ -1,0 +1,9 @@
+pub mod Lists
+pub mod Walks
+pub mod Along
+pub mod Loses
+pub mod Cores
+pub mod Past
+pub mod Leaving
+pub mod Leaves
+pub mod SweptLists
