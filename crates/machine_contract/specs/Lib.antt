@@ -1,0 +1,13 @@
+pub mod Side
+pub mod Lawful
+pub mod Courses
+pub mod Shown
+pub mod Begins
+pub mod Boards
+pub mod Operations
+pub mod Goes
+pub mod Play
+pub mod Broken
+pub mod Laws
+pub mod Budgets
+pub mod Rounds
