@@ -1,0 +1,16 @@
+//! The objects that a machine begins with, and the words of their pages.
+#![tactic(auto)]
+
+mod content;
+mod filling;
+mod groups;
+mod memories;
+mod objects;
+mod spaces;
+mod threads;
+
+pub use content::{content_on, first_word, word_from};
+pub use objects::first_objects;
+
+#[cfg(test)]
+mod tests;
