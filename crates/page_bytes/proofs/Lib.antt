@@ -5,3 +5,4 @@ pub mod Stores
 pub mod Seen
 pub mod Unseen
 pub mod Parts
+pub mod Loads

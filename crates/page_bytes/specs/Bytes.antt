@@ -1,12 +1,13 @@
 -- Bytes that stand on a page in place of others.
-use Rattle.std.specs.Prelude.{◌≡◌, ℕ, ◌+◌, ◌-◌, ◌/◌, ◌==◌, false, if◌then◌else◌, Contains, List, length, Some, option_map, slice_get, slice_index}
+use Rattle.std.specs.Prelude.{◌≡◌, ℕ, ◌+◌, ◌-◌, ◌/◌, ◌==◌, false, if◌then◌else◌, Contains, List, length, map, Option, Some, None, option_map, slice_get, slice_index}
 use Rattle.pmem_model.specs.Words.{is_within, bursts}
 use Rattle.pmem_model.specs.Memory.{Memory, word_at, SameHomes, count_up}
 use Rattle.pmem_layout.specs.Places.{frame_at, runtime_frame}
 use Rattle.mem_space.specs.declared.memory.MemPage.{MemPage}
 use Rattle.plain_state.specs.declared.effect.Place.{Place}
-use Rattle.plain_model.specs.Objects.{regions_of}
-use Rattle.plain_model.specs.Memory.{page_at, place_of}
+use Rattle.plain_state.specs.declared.objects.Region.{Region}
+use Rattle.plain_model.specs.Objects.{Object, regions_of}
+use Rattle.plain_model.specs.Memory.{byte_at, is_covered, page_at, place_of, places_of}
 use Rattle.kobj_table.specs.declared.objects.Objects.{Objects}
 use Rattle.kobj_table.specs.Slots.{memory_in, page_of}
 use Rattle.kobj_table.specs.Objects.{slot_at, object_at}
@@ -43,6 +44,11 @@ pub record StoresWords (page first count : ℕ) (old new : Memory) : Type 0 wher
 pub record IsStoredAt (objects : Objects) (place : Place) (page : MemPage) : Type 0 where
   pub there : slice_get (memory_in (slot_at objects place.memory)).pages.items place.page ≡ Some page
   pub stored : page.fresh ≡ false
+
+-- what a thread sees from an address on, with a right: so many bytes, if each is there
+abbrev pub bytes_seen : (ℕ → Option Object) → List Region → ℕ → ℕ → ℕ → Option (List ℕ)
+bytes_seen objects regions right at count =
+    if is_covered regions right at count then Some (map (byte_at objects) (places_of regions right at count)) else None
 
 -- Whatever the content of pages is, a space has a page at an address, with a right.
 abbrev pub SeesPage : Objects → ℕ → ℕ → ℕ → MemPage → Type 0

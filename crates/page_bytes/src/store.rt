@@ -12,7 +12,7 @@ use pmem_model::Pmem;
 use sls_base::{ENTRY_BYTES, PageNo};
 
 /// The bytes of a word of the memory.
-const WORD_BYTES: usize = call_readings::WORD_BYTES as usize;
+pub(crate) const WORD_BYTES: usize = call_readings::WORD_BYTES as usize;
 
 /// The most bytes that are stored at once: those of an entry behind a word.
 pub const MOST_BYTES: usize = WORD_BYTES + ENTRY_BYTES;

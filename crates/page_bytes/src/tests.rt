@@ -1,14 +1,18 @@
 //! Stores to pages of a memory whose words are all alike. A word whose cached value isn't its durable one was stored.
 
-ghost use Rattle.std.specs.Prelude.{◌≡◌, ◌<◌, IsTrue, true};
+ghost use Rattle.std.specs.Prelude.{◌≡◌, ◌<◌, ◌≤◌, IfOk, IsTrue, true};
+ghost use Rattle.sls_base.specs.declared.limits.TheConstants.{ENTRY_BYTES};
+ghost use Rattle.pmem_model.specs.Memory.{AllHome};
 ghost use Rattle.call_readings.specs.Content.{is_page_home};
 
 use super::*;
+use arrayvec::ArrayVec;
 use call_readings::number_on_page;
-use mem_space::MemPage;
+use kobj_table::{Objects, Slot};
+use mem_space::{MemPage, Memory, Region, Space};
 use pmem_layout::runtime_frame;
 use pmem_model::Pmem;
-use sls_base::{PAGE_BYTES, PAGES, PageNo, WORDS};
+use sls_base::{ObjId, PAGE_BYTES, PAGES, PageNo, READ, WORDS, WRITE};
 use std::alloc::{AllocError, Global};
 use std::test::Fail;
 
@@ -28,7 +32,13 @@ const LAST_PAGE: PageNo = 511;
 
 const LAST_PAGE_AT: usize = 541_184;
 
-fn filled(alloc: Global) -> Result<Pmem, AllocError> {
+const SPACE: ObjId = 7;
+
+const MEMORY: ObjId = 8;
+
+fn filled(alloc: Global) -> Result<Pmem, AllocError>
+    ensures { IfOk result AllHome }
+{
     let words = vec![in alloc; WORD; WORDS]?;
     Pmem::from_words(alloc, &words)
 }
@@ -48,7 +58,9 @@ fn store(nvm: &mut Pmem, page: PageNo, offset: u32, size: u32, value: u32) {
 }
 
 /// Stores bytes, where they can be stored.
-fn put(nvm: &mut Pmem, page: PageNo, offset: u32, bytes: &[u8]) {
+fn put(nvm: &mut Pmem, page: PageNo, offset: u32, bytes: &[u8])
+    ensures { AllHome nvm.old → AllHome nvm.new }
+{
     let fits = !bytes.is_empty()
         && bytes.len() <= MOST_BYTES
         && (offset as usize).saturating_add(bytes.len()) <= PAGE_BYTES;
@@ -65,6 +77,55 @@ fn number(nvm: &Pmem, page: PageNo, offset: u32) -> Option<u32> {
     } else {
         None
     }
+}
+
+/// Objects with a space that may read three pages from address 4,096 on, of which the last is fresh.
+fn objects() -> Objects {
+    let mut space = Space::new();
+    space.regions.push(Region {
+        base: 1,
+        count: 3,
+        first: 0,
+        memory: MEMORY,
+        rights: READ,
+    });
+    let mut memory = Memory::new();
+    for (page, fresh) in [(PAGE, false), (LAST_PAGE, false), (9, true)] {
+        if !memory.pages.is_full() {
+            memory.pages.push(MemPage { page, fresh });
+        }
+    }
+    let mut objects = Objects::new();
+    objects.put(SPACE, Slot::Space(space));
+    objects.put(MEMORY, Slot::Memory(memory));
+    objects
+}
+
+/// Bytes that the space has at an address.
+fn load(objects: &Objects, nvm: &Pmem, right: u8, at: u32, count: u32) -> Option<ArrayVec<u8, 56>>
+    requires count { count ≤ ENTRY_BYTES }
+    requires home { AllHome nvm.now }
+{
+    bytes_at(objects, nvm, SPACE, right, at, count)
+}
+
+#[test]
+fn bytes_are_loaded_over_the_end_of_a_page(rt: HostRuntime) -> Result<(), Fail> {
+    let mut nvm = filled(rt.alloc())?;
+    let objects = objects();
+    put(&mut nvm, PAGE, 4_094, &[1, 2]);
+    put(&mut nvm, LAST_PAGE, 0, &[3, 4]);
+    let bytes = load(&objects, &nvm, READ, 8_189, 6).ok_or("no bytes")?;
+    assert_eq!(rt; bytes.as_slice(), [0x66, 1, 2, 3, 4, 0x33].as_slice());
+    let bytes = load(&objects, &nvm, READ, 12_287, 2).ok_or("no bytes")?;
+    assert_eq!(rt; bytes.as_slice(), [0x88, 0].as_slice());
+    let bytes = load(&objects, &nvm, READ, 0, 0).ok_or("no bytes")?;
+    assert!(rt; bytes.is_empty());
+    assert!(rt; load(&objects, &nvm, READ, 4_095, 2).is_none());
+    assert!(rt; load(&objects, &nvm, READ, 16_383, 2).is_none());
+    assert!(rt; load(&objects, &nvm, READ, u32::MAX, 2).is_none());
+    assert!(rt; load(&objects, &nvm, WRITE, 8_189, 6).is_none());
+    Ok(())
 }
 
 #[test]
