@@ -48,10 +48,10 @@ pub record Does (old new : Calls) (rest : Rest) (w : World) (e : Effect) (done :
   pub caller : Tells done e
   pub quiet : IsQuiet e
 
--- The kernel has done an effect of the plain machine, whatever it stores, puts and takes: objects have changed and pages
--- have been stored to, the threads that it makes Ready stand at the queue's back, entries are put and inputs taken. The
--- numbers in use are the world's again, its rings count its entries, the memory has its pages' bytes, and what becomes
--- of the caller is told. What of the state doesn't stand in the objects was `rest`, and is `after`.
+-- The kernel has done an effect of the plain machine, whatever it stores, puts and takes: objects have changed and
+-- pages have been stored to, the threads that it makes Ready stand at the queue's back, entries are put and inputs
+-- taken. The numbers in use are the world's again, its rings count its entries, the memory has its pages' bytes, and
+-- what becomes of the caller is told. What of the state doesn't stand in the objects was `rest`, and is `after`.
 pub record Obeys (old new : Calls) (rest after : Rest) (m : Memory) (w : World) (e : Effect) (done : Done)
     : Type 0 where
   pub objects : (i : ℕ) → object_at after.content new.objects i

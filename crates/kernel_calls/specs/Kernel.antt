@@ -47,9 +47,9 @@ pub record HeldWith (k : Calls) (devices : Devices) : Type 0 where
   pub held : Held k
   pub attached : IsAttached k.objects devices (world_of k.objects held.rest held.world)
 
--- The kernel's values are a world's, which is sound: its running state is that of the objects, with the content of pages
--- that the memory has; the numbers are those in use in it, and the devices are attached to it. The scheduler stands at
--- its number, and no list but the run queue and those of objects has threads.
+-- The kernel's values are a world's, which is sound: its running state is that of the objects, with the content of
+-- pages that the memory has; the numbers are those in use in it, and the devices are attached to it. The scheduler
+-- stands at its number, and no list but the run queue and those of objects has threads.
 pub record Holds (k : Calls) (devices : Devices) (m : Memory) (rest : Rest) (w : World) : Type 0 where
   pub now : w.now ≡ state_of k.objects rest
   pub sound : whole.IsSound w

@@ -98,7 +98,8 @@ impl Calls {
     }
 
     /// A tick of a core: it takes a thread where it has none, the thread does one instruction, and its slice falls by
-    /// one. A core that has no thread to run is idle. The reply says so, and whether the thread wishes for a checkpoint.
+    /// one. A core that has no thread to run is idle. The reply says so, and whether the thread wishes for a
+    /// checkpoint.
     pub fn tick(&mut self, devices: &Devices, nvm: &mut Pmem, core: CoreNo) -> Reply
         requires below { core < CORES }
         requires core { core < length (cores_of (slot_at self.old.objects SCHEDULER)) }
@@ -128,8 +129,8 @@ impl Calls {
         reply_of(wishes)
     }
 
-    /// Lets a thread that a core has taken do its instruction, and puts it down. It says whether the thread wishes for a
-    /// checkpoint.
+    /// Lets a thread that a core has taken do its instruction, and puts it down. It says whether the thread wishes for
+    /// a checkpoint.
     pub(crate) fn run_instruction(
         &mut self,
         devices: &Devices,

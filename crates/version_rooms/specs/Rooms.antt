@@ -44,8 +44,8 @@ reads_at steps.Store v = v
 reads_at steps.Flush v = v + 1
 reads_at steps.Fence v = v + 1
 
--- Whatever is written back, all words but the version word say at version v what is saved, and beside it the next version
--- is written. `phase` tells whether the leader has fenced what it flushed of the pages.
+-- Whatever is written back, all words but the version word say at version v what is saved, and beside it the next
+-- version is written. `phase` tells whether the leader has fenced what it flushed of the pages.
 pub record RoomsKeep (r : Rooms) (f : ℕ → Word) (v : ℕ) (c : Contents) (phase : Phase) : Type 0 where
   pub in_range : v ≤ LAST_VERSION
   pub fixed : IsFixed f c.saved.cores
@@ -95,7 +95,8 @@ pub record AreCommitted (r : Rooms) : Type 0 where
 abbrev pub once_committed : Contents → Parts → (ℕ → Option Obj) → Contents
 once_committed c next objects = record { saved = next; objects = objects; pages = c.pages }
 
--- A step of the log of the next version, by what is seen of the numbers. The first takes the numbers that are in use now.
+-- A step of the log of the next version, by what is seen of the numbers. The first takes the numbers that are in use
+-- now.
 pub record Logs (old new : InUse) : Type 0 where
   pub version : new.work.version ≡ old.work.version
   pub running : new.running ≡ old.running

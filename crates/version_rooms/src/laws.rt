@@ -57,8 +57,8 @@ pub(crate) fn rooms_are_apart()
         → IsAtRest r → StoresOnlyIn Numbers f g → RoomsShow r f v c phase → NumbersShow numbers.work g v c.saved.numbers
         → RoomsShow (record r { numbers = numbers }) g v c phase }
     ensures objects { (r : Rooms) (roots : Room) (f g : ℕ → Word) (v : ℕ) (c : Contents) (phase : Phase)
-        → IsAtRest r → StoresOnlyIn Objects f g → RoomsShow r f v c phase → ObjectsShow roots g v c.saved.objects c.objects
-        → RoomsShow (record r { roots = roots }) g v c phase }
+        → IsAtRest r → StoresOnlyIn Objects f g → RoomsShow r f v c phase
+        → ObjectsShow roots g v c.saved.objects c.objects → RoomsShow (record r { roots = roots }) g v c phase }
     ensures pages { (r : Rooms) (pages : PageStore) (f g : ℕ → Word) (v : ℕ) (c : Contents)
         (now : ℕ → Option (ℕ → ℕ)) (phase then : Phase) → IsAtRest r → StoresOnlyIn Pages f g
         → RoomsShow r f v c phase → PagesShow pages g v c.saved.pages now then
@@ -81,10 +81,11 @@ pub(crate) fn burst_on_page()
     pmem_layout::laws::owners_are_apart();
 }
 
-/// After a fence by the leader what it flushed of the pages is durable, and so are the records and tags that it flushed.
+/// After a fence by the leader what it flushed of the pages is durable, and so are the records and tags that it
+/// flushed.
 pub(crate) fn fenced_rooms()
-    ensures pages { (r : Rooms) (f g : ℕ → Word) (v : ℕ) (c : Contents) (phase : Phase) → IsAtRest r → IsFenced LEADER f g
-        → RoomsShow r f v c phase → RoomsShow r g v c Fenced }
+    ensures pages { (r : Rooms) (f g : ℕ → Word) (v : ℕ) (c : Contents) (phase : Phase) → IsAtRest r
+        → IsFenced LEADER f g → RoomsShow r f v c phase → RoomsShow r g v c Fenced }
     ensures objects { (r : Rooms) (roots : Room) (f g : ℕ → Word) (v : ℕ) (c : Contents) (phase : Phase)
         → IsAtRest r → IsFenced LEADER f g → Passes r.roots roots (fenced r.roots.phase)
         → RoomsShow r f v c phase → RoomsShow (record r { roots = roots }) g v c Fenced }
@@ -124,8 +125,8 @@ pub(crate) fn version_apart()
     pmem_layout::laws::owners_are_apart();
 }
 
-/// After an event that stored nothing, all is as before where the version that is durable is the committed one; else the
-/// next version, which is written whole, is durable in the version word.
+/// After an event that stored nothing, all is as before where the version that is durable is the committed one; else
+/// the next version, which is written whole, is durable in the version word.
 pub(crate) fn settled_rooms()
     ensures same { (r : Rooms) (f g : ℕ → Word) (v : ℕ) (c : Contents) (phase : Phase) → IsCalm f g
         → RoomsShow r f v c phase → (g VERSION_AT).durable ≡ v → RoomsShow r g v c phase }

@@ -1,5 +1,5 @@
-//! All rooms of the persistent memory together: the version word, the numbers in use, the objects and the pages, from one
-//! committed version to the next.
+//! All rooms of the persistent memory together: the version word, the numbers in use, the objects and the pages, from
+//! one committed version to the next.
 #![tactic(auto)]
 
 pub mod laws;

@@ -139,8 +139,8 @@ impl Rooms {
         self.roots.write_step(nvm, id, words)
     }
 
-    /// Names the next version in the tag of an object's new record: it stores the tag, and then flushes it. True exactly
-    /// at the last.
+    /// Names the next version in the tag of an object's new record: it stores the tag, and then flushes it. True
+    /// exactly at the last.
     pub fn tag_step(&mut self, nvm: &mut Pmem, id: ObjId) -> bool
         requires rest { IsAtRest self.old }
         requires object { id < OBJECTS }
@@ -182,8 +182,8 @@ impl Rooms {
         self.pages.forget(page);
     }
 
-    /// Writes the log of the next version, in which the numbers are in use that are so in the running state at the first
-    /// of these steps. True exactly when it is durable.
+    /// Writes the log of the next version, in which the numbers are in use that are so in the running state at the
+    /// first of these steps. True exactly when it is durable.
     pub fn log_step(&mut self, nvm: &mut Pmem) -> bool
         requires rest { IsAtRest self.old }
         requires version { self.old.numbers.work.version < LAST_VERSION }
