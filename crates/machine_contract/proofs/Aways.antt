@@ -1,6 +1,6 @@
 -- Home leaves fewer entries away, and while the machine runs no answer leaves more.
-use Rattle.std.proofs.Common.{◌≡◌, inl, inr, ℕ, zero, suc, ◌+◌, ◌<◌, ◌≤◌, ◌==◌, ◌∙◌, sym, ap, refl, Bool, true, false, not, cond, if◌then◌else◌, arith, List, [], ◌∷◌, length, map}
-use Rattle.std.specs.List.{sum_by, count_by}
+use Rattle.std.proofs.Common.{◌≡◌, ℕ, zero, suc, ◌<◌, ◌≤◌, ◌==◌, ap, refl, Bool, true, false, not, cond, arith, List, [], ◌∷◌}
+use Rattle.std.specs.List.{sum_by}
 use Rattle.std.proofs.lemmas.Bool.Decides.{nat_tests}
 use Rattle.std.proofs.lemmas.List.Sums.{sum_by-cons}
 use Rattle.plain_model.specs.Worlds.{World}
@@ -8,10 +8,10 @@ use Rattle.machine_contract.specs.declared.answers.Did.{Did}
 use Rattle.machine_contract.specs.declared.answers.Did.TheVariants as did
 use Rattle.machine_contract.specs.declared.answers.Why.{Why}
 use Rattle.machine_contract.specs.declared.answers.Why.TheVariants as why
-use Rattle.machine_contract.specs.Side.{BoardEntry, Side, Running, InCheckpoint, IsStarting}
+use Rattle.machine_contract.specs.Side.{BoardEntry, Side, Running}
 use Rattle.machine_contract.specs.Lawful.{IsLawful, IsAway, homed, brought_home}
 use Rattle.machine_contract.specs.Laws.{away_count}
-use Rattle.machine_contract.proofs.Hands.{checkpoint_not, not_running}
+use Rattle.machine_contract.proofs.Hands.{checkpoint_not}
 
 -- one for an entry that is away
 abbrev pub away_one : BoardEntry → ℕ

@@ -1,9 +1,9 @@
 -- Operations are paid for: the count of them and the budget rise together by no more than an answer allows.
-use Rattle.std.proofs.Common.{◌≡◌, ◌≢◌, inl, inr, ◌⊎◌, ⊎_elim, ℕ, zero, suc, ◌+◌, ◌*◌, ◌<◌, ◌≤◌, ◌∙◌, sym, ap, refl, subst, Bool, true, false, not, cond, if◌then◌else◌, ◌==◌, nat_lt, is_some, arith, List, [], ◌∷◌, length, replicate, Option, Some, None, slice_index_or, slice_set}
-use Rattle.std.specs.List.{sum_by, count_by}
-use Rattle.std.proofs.lemmas.Bool.{cases_lt, cases_Bool}
+use Rattle.std.proofs.Common.{◌≡◌, inl, inr, ⊎_elim, ℕ, suc, ◌+◌, ◌*◌, ◌<◌, ◌≤◌, ◌∙◌, sym, ap, refl, Bool, true, false, not, cond, if◌then◌else◌, ◌==◌, nat_lt, is_some, arith, List, [], ◌∷◌, length, Option, Some, None, slice_index_or}
+use Rattle.std.specs.List.{sum_by}
+use Rattle.std.proofs.lemmas.Bool.{cases_lt}
 use Rattle.std.proofs.lemmas.Bool.Decides.{nat_tests}
-use Rattle.std.proofs.lemmas.List.{get_or-map, get_or_past, set_past, same_lists}
+use Rattle.std.proofs.lemmas.List.{get_or_past, set_past}
 use Rattle.std.proofs.lemmas.List.Sums.{sum_by-cons, sum_by-set, count_by-le-length}
 use Rattle.std.proofs.lemmas.List.Folds.{sum_by-replicate}
 use Rattle.sls_base.specs.declared.entry.Entry.{Entry}
@@ -21,7 +21,7 @@ use Rattle.machine_contract.specs.declared.answers.Event.TheVariants.{Turn, Ask,
 use Rattle.machine_contract.specs.declared.answers.Answer.{Answer}
 use Rattle.machine_contract.specs.declared.answers.Answer.TheVariants as told
 use Rattle.machine_contract.specs.Side.{Mode, Formatting, Side, CoreSide, BoardEntry, free_core, begun, none_given, core_at, entry_at, no_entry, IsSoundCore, IsSound}
-use Rattle.machine_contract.specs.Lawful.{IsLawful, IsLawfulAsked, IsLawfulBack, HelperSteps, GoesOn, Draws, FindsNone, Prepares, ComesHome, Leads, KeepsBoard, Opens, IsOrNone, OnlyComeHome, cores_but, homed, brought_home, with_drawn, held_if_away}
+use Rattle.machine_contract.specs.Lawful.{IsLawful, IsLawfulAsked, IsLawfulBack, HelperSteps, GoesOn, Draws, Prepares, ComesHome, Leads, KeepsBoard, Opens, cores_but, homed, brought_home, with_drawn}
 use Rattle.machine_contract.specs.Courses.{Course, label_of, after}
 use Rattle.machine_contract.specs.Shown.{Seen, Format}
 use Rattle.machine_contract.specs.Begins.{IsBooted}

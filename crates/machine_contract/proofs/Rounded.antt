@@ -1,5 +1,5 @@
 -- A checkpoint that is still in flight has had few rounds of turns.
-use Rattle.std.proofs.Common.{◌≡◌, ◌≢◌, inl, inr, ◌⊎◌, ⊎_elim, ℕ, zero, suc, ◌+◌, ◌-◌, ◌<◌, ◌≤◌, ◌∙◌, sym, ap, refl, subst, Bool, true, false, arith, List, [], ◌∷◌, length, Option, Some, None, slice_index_or}
+use Rattle.std.proofs.Common.{◌≡◌, ◌≢◌, inl, inr, ◌⊎◌, ⊎_elim, ℕ, zero, suc, ◌+◌, ◌-◌, ◌<◌, ◌≤◌, ◌∙◌, sym, ap, refl, subst, true, false, arith, List, [], ◌∷◌, length, Option, Some, None, slice_index_or}
 use Rattle.std.proofs.lemmas.Bool.{cases_lt, cases_eq, cases_Bool}
 use Rattle.std.proofs.lemmas.List.{get_or_past}
 use Rattle.sls_base.specs.declared.fixed.TheConstants.{LEADER}
@@ -14,7 +14,7 @@ use Rattle.machine_contract.specs.declared.answers.Event.TheVariants.{Turn}
 use Rattle.machine_contract.specs.declared.answers.Answer.{Answer}
 use Rattle.machine_contract.specs.declared.answers.Answer.TheVariants as told
 use Rattle.machine_contract.specs.Side.{Mode, Running, Side, CoreSide, InCheckpoint, IsStarting, IsSound, core_at, free_core}
-use Rattle.machine_contract.specs.Lawful.{IsLawful, HelperSteps, Helps, Leads, LeaderGoes, Prepares, Opens, NonePrepares}
+use Rattle.machine_contract.specs.Lawful.{IsLawful, Helps, Leads, LeaderGoes, Prepares, Opens, NonePrepares}
 use Rattle.machine_contract.specs.Courses.{Course, turn_label, after}
 use Rattle.machine_contract.specs.Shown.{Seen, Format}
 use Rattle.machine_contract.specs.Play.{IsPlayed}

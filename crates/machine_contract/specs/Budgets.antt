@@ -1,5 +1,5 @@
 -- The operations that a machine may still do for what it is at, and those that answers allow beside.
-use Rattle.std.specs.Prelude.{ℕ, ◌+◌, ◌*◌, not, is_some, if◌then◌else◌, List, [], ◌∷◌, count_by, sum_by}
+use Rattle.std.specs.Prelude.{ℕ, ◌+◌, ◌*◌, not, is_some, if◌then◌else◌, List, ◌∷◌, count_by, sum_by}
 use Rattle.plain_model.specs.Worlds.{World}
 use Rattle.plain_model.specs.Cost.{cost}
 use Rattle.machine_contract.specs.declared.bounds.TheConstants.{COPY_TURNS, START_TURNS}

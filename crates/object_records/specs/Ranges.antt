@@ -1,14 +1,13 @@
 -- Which objects of a running kernel have a record.
 use Rattle.std.specs.Prelude.{◌≡◌, ℕ, ◌≤◌, length, None, slice_index_or}
 use Rattle.sls_base.specs.declared.limits.TheConstants.{CORES}
-use Rattle.sls_base.specs.declared.fixed.TheConstants.{SCHEDULER}
-use Rattle.sls_base.specs.declared.thread.Ring.{Ring}
 use Rattle.plain_model.specs.States.{State}
 use Rattle.plain_laws.specs.Places.{IsPlaced, IsPresent}
 use Rattle.plain_laws.specs.Sound.{HaveForms, NameWhatIs, AreApart}
 use Rattle.plain_laws.specs.Laws.{AreInRange}
 use Rattle.plain_laws.specs.Fixed.{HasFixedObjects}
 use Rattle.plain_laws.specs.Bounds.{HasThreads}
+use Rattle.kobj_table.specs.declared.slot.Slot.{Slot}
 use Rattle.kobj_table.specs.declared.slot.Slot.TheVariants as slots
 use Rattle.kobj_table.specs.declared.slot.Cores.{Cores}
 use Rattle.kobj_table.specs.declared.objects.Objects.{Objects}
@@ -33,7 +32,12 @@ pub record IsCores (c : Cores) : Type 0 where
   pub size : length c.running ≡ CORES
   pub past : (core : ℕ) → c.cores ≤ core → slice_index_or c.running core None ≡ None
 
--- What no plain state tells of the objects is in range: counts, pages and marks of rings, and which cores there are.
-pub record IsUntoldInRange (o : Objects) : Type 0 where
-  pub rings : (i : ℕ) (ring : Ring) → slot_at o i ≡ slots.Ring ring → IsRing ring
-  pub cores : (c : Cores) → slot_at o SCHEDULER ≡ slots.Scheduler c → IsCores c
+-- What of a slot no plain state tells is in range: a ring's count, page and mark, and which cores there are.
+abbrev pub IsUntoldInRange : Slot → Type 0
+IsUntoldInRange (slots.Ring ring) = IsRing ring
+IsUntoldInRange (slots.Scheduler cores) = IsCores cores
+IsUntoldInRange slot = Unit {0}
+
+-- so it is of each slot
+abbrev pub AreUntoldInRange : Objects → Type 0
+AreUntoldInRange o = (i : ℕ) → IsUntoldInRange (slot_at o i)

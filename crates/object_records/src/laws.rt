@@ -1,20 +1,21 @@
 //! Laws. Each of these functions does nothing: its contract is the law.
 
-ghost use Rattle.std.specs.Prelude.{◌≡◌, ◌≢◌, ◌↔◌, ℕ, true, false, List, Contains, Option, Some, None, IfSome};
-ghost use Rattle.sls_base.specs.declared.fixed.TheConstants.{SCHEDULER};
+ghost use Rattle.std.specs.Prelude.{◌≡◌, ◌≢◌, ◌↔◌, ℕ, ◌<◌, ◌≤◌, slice_set, true, false, List, Contains, Option, Some, None, IfSome};
+ghost use Rattle.sls_base.specs.declared.fixed.TheConstants.{SCHEDULER, FIRST_PROGRAM_OBJECT};
 ghost use Rattle.link_lists.specs.Lists.{list_at};
 ghost use Rattle.plain_model.specs.Worlds.{World};
 ghost use Rattle.plain_laws.specs.Places.{IsPlaced};
 ghost use Rattle.plain_laws.specs.Fixed.{HasFixedObjects};
 ghost use Rattle.plain_laws.specs.Whole.{IsSound};
 ghost use Rattle.kobj_table.specs.declared.slot.Slot.{Slot};
+ghost use Rattle.kobj_table.specs.declared.slot.Cores.{Cores};
 ghost use Rattle.kobj_table.specs.declared.objects.Objects.{Objects};
 ghost use Rattle.kobj_table.specs.Slots.{object_of, is_scheduler};
-ghost use Rattle.kobj_table.specs.Objects.{slot_at, object_at, Rest, state_of, HasNoStrays};
+ghost use Rattle.kobj_table.specs.Objects.{slot_at, Rest, state_of, HasNoStrays};
 ghost use Rattle.kobj_codec.specs.declared.obj.Obj.{Obj};
 ghost use Rattle.kobj_codec.specs.Objects.{IsObj, IsList};
 ghost use Rattle.object_records.specs.Records.{record_of, record_at, slot_of, threads_of, HasOwnThreads, HasOwnLists, object_of_record, object_in, list_in, is_scheduler_in, state_of_records, SameBytes};
-ghost use Rattle.object_records.specs.Ranges.{IsSoundState, IsUntoldInRange};
+ghost use Rattle.object_records.specs.Ranges.{IsCores, IsSoundState, IsUntoldInRange, AreUntoldInRange};
 
 /// A record tells the slot that it is of, and its list, where no list has threads but those of connections, of
 /// notifications and of schedulers. Each record is that of some slot and list.
@@ -39,8 +40,8 @@ pub fn records_stand_for_objects()
         → ((i : ℕ) → record_at b i ≡ record_at a i) → state_of b rest ≡ state_of a rest }
 {}
 
-/// Each list of threads belongs to what stands at its number exactly where none is a stray and the run queue is a
-/// scheduler's; then records tell all slots and all lists.
+/// Each list of threads belongs to what stands at its number where none is a stray and the run queue is a scheduler's;
+/// and then none is a stray, if no other number has a scheduler. Records then tell all slots and all lists.
 pub fn records_tell_tables()
     ensures own { (o : Objects) → HasNoStrays o → is_scheduler (slot_at o SCHEDULER) ≡ true → HasOwnLists o }
     ensures strays { (o : Objects) → HasOwnLists o
@@ -60,12 +61,22 @@ pub fn fresh_pages_are_zero()
         → state_of_records records (record rest { content = content }) ≡ state_of_records records rest }
 {}
 
-/// The objects of a sound state have records, where what no plain state tells is in range.
+/// The objects of a sound state have records, where what no plain state tells of them is in range.
 pub fn sound_objects_have_records()
     ensures sound { (w : World) → IsSound w → IsSoundState w.now × IsSoundState w.saved }
-    ensures in_range { (o : Objects) (rest : Rest) (i : ℕ) → IsSoundState (state_of o rest) → IsUntoldInRange o
+    ensures in_range { (o : Objects) (rest : Rest) (i : ℕ) → IsSoundState (state_of o rest) → AreUntoldInRange o
         → IfSome (record_at o i) IsObj }
     ensures list { (obj : Obj) → IsObj obj → IsList (threads_of obj) }
+{}
+
+/// What no plain state tells of a slot is in range where it comes from a record, and where a core that there is comes
+/// to run something else. Where the fixed objects stand at their numbers, nothing is untold of the others.
+pub fn untold_stays_in_range()
+    ensures decoded { (obj : Obj) → IsObj obj → IsUntoldInRange (slot_of obj) }
+    ensures ran { (c : Cores) (core : ℕ) (running : Option (ℕ × ℕ)) → IsCores c → core < c.cores
+        → IsCores (record c { running = slice_set c.running core running }) }
+    ensures others { (o : Objects) (rest : Rest) (i : ℕ) → HasFixedObjects (state_of o rest)
+        → FIRST_PROGRAM_OBJECT ≤ i → IsUntoldInRange (slot_at o i) }
 {}
 
 /// Records that stand for a state in which each thread is in one place have it in one list at most, and the scheduler's

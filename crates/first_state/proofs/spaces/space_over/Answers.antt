@@ -11,7 +11,7 @@ map-requires-clause-apart c =
     let specs = c.args.specs.now in
     let m = c.loop-i.i - 1 in
     let next : c.loop-i.i ≡ m + 1 = omega (arith, c.loop-i-test.true) in
-    no_overlap specs m (c.args.n + m) c.index-specs-i.result c.region_over.result c.loop-i.space.regions.items c.requires.regions c.requires.apart (omega (arith, c.loop-i-test.true, c.loop-i.auto.i)) c.index-specs-i.is c.region_over.ensures
+    no_overlap specs m _ c.index-specs-i.result c.region_over.result c.loop-i.space.regions.items c.requires.regions c.requires.apart (omega (arith, c.loop-i-test.true, c.loop-i.auto.i)) c.index-specs-i.is c.region_over.ensures
     (subst (λ k. All (IsFromBehind specs k) c.loop-i.space.regions.items) next c.loop-i.invariant.from)
 
 pub loop-i-preserved : goal.loop-i-preserved
@@ -33,6 +33,6 @@ loop-i-preserved c =
       space = c.map.ensures.space;
       regions = regions_more (drop m specs) (drop (m + 1) specs) spec (c.args.n + m) region old new first c.region_over.ensures was c.map.ensures.by_place;
       count = omega (arith, longer, c.loop-i.invariant.count, c.loop-i-test.true);
-      from = from_more specs m region old new c.map.ensures.members (from_spec specs m (c.args.n + m) spec region inside c.index-specs-i.is c.region_over.ensures)
+      from = from_more specs m region old new c.map.ensures.members (from_spec specs m _ spec region inside c.index-specs-i.is c.region_over.ensures)
           (subst (λ k. All (IsFromBehind specs k) old) next c.loop-i.invariant.from);
     }

@@ -1,5 +1,5 @@
-use Rattle.std.proofs.Common.{◌≡◌, inl, ℕ, ◌<◌, ap, refl, arith, length}
-use Rattle.machine_contract.specs.Side.{Side, BeforeCommit}
+use Rattle.std.proofs.Common.{inl, ap, refl, arith, length}
+use Rattle.machine_contract.specs.Side.{Side}
 use Rattle.machine_contract.specs.Courses.{played, labels_of}
 use Rattle.machine_contract.specs.Rounds.{rounds}
 use Rattle.machine_contract.proofs.Chains.{plays_show}
