@@ -5,3 +5,4 @@ pub mod Steps
 pub mod BackLaws
 pub mod BackSteps
 pub mod Fewer
+pub mod Stored

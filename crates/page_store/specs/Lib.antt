@@ -4,3 +4,4 @@ pub mod Stages
 pub mod Known
 pub mod Shows
 pub mod Back
+pub mod Stores

@@ -1,6 +1,6 @@
 //! Laws. Each of these functions does nothing: its contract is the law.
 
-ghost use Rattle.std.specs.Prelude.{◌≡◌, ◌≢◌, ◌⊎◌, ◌+◌, ◌<◌, ◌≤◌, ℕ, Option, Some, None};
+ghost use Rattle.std.specs.Prelude.{◌≡◌, ◌≢◌, ◌⊎◌, ◌+◌, ◌<◌, ◌≤◌, ℕ, Bool, Option, Some, None, true};
 ghost use Rattle.sls_base.specs.declared.limits.TheConstants.{FRAME_WORDS, PAGES};
 ghost use Rattle.sls_base.specs.declared.fixed.TheConstants.{LEADER};
 ghost use Rattle.pmem_model.specs.Words.{Word};
@@ -12,6 +12,7 @@ ghost use Rattle.page_store.specs.Format.{Is, PagesStand, frame_of};
 ghost use Rattle.page_store.specs.Stages.{stage_of, IsFlushed};
 ghost use Rattle.page_store.specs.Known.{Phase, Open, Fenced};
 ghost use Rattle.page_store.specs.Shows.{PagesShow};
+ghost use Rattle.page_store.specs.Stores.{after_stores, IsStored, StoresInPages};
 ghost use Rattle.page_store.specs.Back.{RecoveryShows};
 ghost use Rattle.page_store.specs.declared.recovery.Recovery.{Recovery};
 ghost use Rattle.page_store.specs.declared.stage.Origin.{Origin};
@@ -77,4 +78,12 @@ pub fn recovery()
         → CalmIn owners.Pages f g → RecoveryShows r f v saved → RecoveryShows r g v saved }
     ensures stands { (r : Recovery) (f : ℕ → Word) (left : ℕ → ℕ) (v : ℕ) (saved : ℕ → Option (ℕ → ℕ))
         → LeftIn owners.Pages f left → RecoveryShows r f v saved → PagesStand left v saved }
+{}
+
+/// Where words are stored in the runtime frames of some pages alone, and that was noted of each of them, what is saved is
+/// kept, and each of these pages runs as its frame reads.
+pub fn stored_pages_run()
+    ensures { (s : PageStore) (f g : ℕ → Word) (v : ℕ) (saved now : ℕ → Option (ℕ → ℕ)) (test : ℕ → Bool)
+        → ((page : ℕ) → page < PAGES → test page ≡ true → IsStored (stage_of s page)) → StoresInPages test f g
+        → PagesShow s f v saved now Open → PagesShow s g v saved (after_stores test g now) Open }
 {}

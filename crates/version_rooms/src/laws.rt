@@ -1,7 +1,7 @@
 //! Laws. Each of these functions does nothing: its contract is the law.
 
-ghost use Rattle.std.specs.Prelude.{◌≡◌, ◌≢◌, ◌+◌, ℕ, Option};
-ghost use Rattle.sls_base.specs.declared.limits.TheConstants.{VERSION_AT};
+ghost use Rattle.std.specs.Prelude.{◌≡◌, ◌≢◌, ◌+◌, ◌<◌, ℕ, Bool, Option, true};
+ghost use Rattle.sls_base.specs.declared.limits.TheConstants.{PAGES, VERSION_AT};
 ghost use Rattle.sls_base.specs.declared.fixed.TheConstants.{LEADER};
 ghost use Rattle.pmem_model.specs.Words.{Word};
 ghost use Rattle.pmem_model.specs.Events.{Clean, IsBurst, IsCalm, IsFenced, Left, WordIs};
@@ -16,7 +16,9 @@ ghost use Rattle.object_root.specs.Steps.{fenced};
 ghost use Rattle.object_root.specs.Shows.{ObjectsShow};
 ghost use Rattle.page_store.specs.declared.store.PageStore.{PageStore};
 ghost use Rattle.page_store.specs.Shows.{PagesShow};
-ghost use Rattle.page_store.specs.Known.{Phase, Fenced};
+ghost use Rattle.page_store.specs.Known.{Phase, Open, Fenced};
+ghost use Rattle.page_store.specs.Stages.{stage_of};
+ghost use Rattle.page_store.specs.Stores.{after_stores, IsStored, StoresInPages};
 ghost use Rattle.durable_state.specs.Parts.{Parts};
 ghost use Rattle.version_rooms.specs.declared.rooms.Rooms.{Rooms};
 ghost use Rattle.version_rooms.specs.Rooms.{Contents, IsAtRest, IsReady, RoomsKeep, RoomsShow, MayCommit, LeavesOne};
@@ -138,4 +140,16 @@ pub(crate) fn settled_rooms()
     version_commit::laws::version_word();
     kept_rooms();
     pmem_layout::laws::owners_take_part();
+}
+
+/// Where words are stored in the runtime frames of some pages alone, and that was noted of each of them, what is saved is
+/// kept, and each of these pages runs as its frame reads.
+pub fn stored_pages_run()
+    ensures { (r : Rooms) (f g : ℕ → Word) (v : ℕ) (c : Contents) (test : ℕ → Bool) → IsAtRest r
+        → ((page : ℕ) → page < PAGES → test page ≡ true → IsStored (stage_of r.pages page)) → StoresInPages test f g
+        → RoomsShow r f v c Open → RoomsShow r g v (record c { pages = after_stores test g c.pages }) Open }
+{
+    page_store::laws::stored_pages_run();
+    rooms_are_apart();
+    pmem_layout::laws::owners();
 }
