@@ -16,7 +16,8 @@ use Rattle.machine_contract.specs.Shown.{Seen, Format, durable_of}
 -- aren't fresh and have a slot of the version.
 abbrev pub IsRenewed : Format → Seen → World → Type 0
 IsRenewed format m w =
-    (page : ℕ) → m.side.writable page ≡ (has_page w.now page && format.tagged (durable_of m.words) w.version page)
+    (page : ℕ) → (m.side.writable page ≡ true)
+    ↔ ((has_page w.now page ≡ true) × format.Tagged (durable_of m.words) w.version page)
 
 -- Hot pages.
 

@@ -35,8 +35,8 @@ pub record Format : Type 1 where
   pub Stands : (ℕ → ℕ) → (ℕ → ℕ) → (ℕ → ℕ) → State → Type 0
   -- `Formats image cores durable`: each is 0, or the one that formatting from the image for so many cores stores there
   pub Formats : Image → ℕ → (ℕ → ℕ) → Type 0
-  -- `tagged durable version page`: the page isn't fresh at the version, and a slot of it has the version as its tag
-  pub tagged : (ℕ → ℕ) → ℕ → ℕ → Bool
+  -- `Tagged durable version page`: the page isn't fresh at the version, and a slot of it has the version as its tag
+  pub Tagged : (ℕ → ℕ) → ℕ → ℕ → Type 0
   -- `spare_has durable version spare`: the spare has the version as its tag
   pub spare_has : (ℕ → ℕ) → ℕ → ℕ → Bool
   -- hot pages are copied to spares: a checkpoint doesn't commit without a board
