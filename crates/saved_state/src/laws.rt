@@ -25,6 +25,7 @@ pub fn words_read_as_one()
         → ReadsAs words version base accepted s → ReadsAs words version base accepted t → SameReads base accepted s t }
 {
     durable_state::laws::parts_are_of_one();
+    out_gate::entries_have_places();
 }
 
 /// Inputs that wait are read nowhere, so a state reads alike when they are lost. An entry that the device accepts is
