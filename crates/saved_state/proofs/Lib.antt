@@ -1,2 +1,4 @@
 pub mod Records
 pub mod AsOne
+pub mod Inputs
+pub mod Accepted
