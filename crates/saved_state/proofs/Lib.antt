@@ -2,3 +2,5 @@ pub mod Records
 pub mod AsOne
 pub mod Inputs
 pub mod Accepted
+pub mod Contents
+pub mod Running
