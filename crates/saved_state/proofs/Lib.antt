@@ -4,3 +4,5 @@ pub mod Inputs
 pub mod Accepted
 pub mod Contents
 pub mod Running
+pub mod Slots
+pub mod PutBack

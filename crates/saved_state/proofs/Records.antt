@@ -1,11 +1,9 @@
 -- What a state is, part by part, that records and words of pages stand for.
-use Rattle.std.proofs.Common.{◌≡◌, ℕ, ◌<◌, ◌/◌, ◌%◌, ◌&&◌, nat_lt, Bool, true, false, if◌then◌else◌, List, Option, refl, ap, arith}
+use Rattle.std.proofs.Common.{◌≡◌, ℕ, ◌<◌, ◌/◌, ◌%◌, ◌&&◌, nat_lt, Bool, true, false, if◌then◌else◌, Option, refl, ap, arith}
 use Rattle.std.proofs.lemmas.Bool.Decides.{nat_tests}
 use mathlib.Core.Path.{fun_ext}
 use Rattle.sls_base.specs.declared.limits.TheConstants.{FRAME_WORDS, PAGES, PAGE_BYTES}
 use Rattle.sls_base.specs.declared.fixed.TheConstants.{SCHEDULER}
-use Rattle.plain_state.specs.declared.objects.Occupant.{Occupant}
-use Rattle.plain_model.specs.Objects.{Object}
 use Rattle.plain_model.specs.States.{State}
 use Rattle.page_store.specs.Shows.{words_of}
 use Rattle.kobj_codec.specs.declared.obj.Obj.{Obj}

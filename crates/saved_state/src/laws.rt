@@ -1,23 +1,16 @@
 //! Laws. Each of these functions does nothing: its contract is the law.
 
-ghost use Rattle.std.specs.Prelude.{◌≡◌, ◌+◌, ◌<◌, ◌≤◌, ℕ, Bool, List, Option, IfSome, length, if◌then◌else◌, ◌==◌};
-ghost use Rattle.sls_base.specs.declared.fixed.TheConstants.{SCHEDULER};
+ghost use Rattle.std.specs.Prelude.{◌≡◌, ◌+◌, ◌<◌, ℕ, Bool, List, Option, IfSome, length, if◌then◌else◌, ◌==◌};
 ghost use Rattle.plain_model.specs.States.{State};
 ghost use Rattle.plain_model.specs.Worlds.{World, accepted_count};
+ghost use Rattle.plain_laws.specs.Bounds.{HasRoom};
 ghost use Rattle.kobj_table.specs.declared.objects.Objects.{Objects};
-ghost use Rattle.kobj_table.specs.Slots.{is_scheduler};
-ghost use Rattle.kobj_table.specs.Objects.{Rest, slot_at, state_of, HasNoStrays};
+ghost use Rattle.kobj_table.specs.Objects.{Rest, state_of};
 ghost use Rattle.kobj_codec.specs.Objects.{IsObj};
-ghost use Rattle.object_records.specs.Records.{record_at};
 ghost use Rattle.object_records.specs.Ranges.{AreUntoldInRange};
 ghost use Rattle.durable_state.specs.Parts.{Parts};
-ghost use Rattle.call_readings.specs.Kernel.{CountsEntries};
-ghost use Rattle.out_gate.specs.Entries.{EntriesStand};
-ghost use Rattle.saved_state.specs.State.{ArePartsOf, ReadsAs, SameReads, content_of, rest_of};
-ghost use Rattle.saved_state.specs.Running.{AreNumbersOf, ArePutBack, CanBeSaved, HasFixedSlots, parts_of};
-
-use pmem_layout::NUMBERS;
-use sls_base::{OBJECTS, VERSION_AT};
+ghost use Rattle.saved_state.specs.State.{ArePartsOf, ReadsAs, SameReads, rest_of};
+ghost use Rattle.saved_state.specs.Running.{AreNumbersOf, ArePutBack, CanBeSaved, parts_of};
 
 /// At a version words read as one state alone, but for inputs that wait and for entries that the device has accepted.
 pub fn words_read_as_one()
@@ -48,19 +41,21 @@ pub fn running_objects_are_parts()
         → CanBeSaved o rest pages w → AreUntoldInRange o }
 {
     object_records::laws::records_stand_for_objects();
-    object_records::laws::sound_objects_have_records();
     object_records::laws::untold_stays_in_range();
     object_records::laws::fresh_pages_are_zero();
 }
 
 /// Objects that were put back from the records of a version, with the words of its pages, are the state that its parts
-/// are; and they can be saved again in every world that has accepted what the parts say.
+/// are; and they can be saved again in every world that has accepted what the parts say, and in which the state has
+/// room.
 pub fn parts_are_running_objects()
     ensures state { (o : Objects) (base accepted : ℕ → ℕ) (p : Parts) (s : State) → ArePartsOf base accepted p s
         → ArePutBack o p → state_of o (rest_of p.pages s) ≡ s }
     ensures saved { (o : Objects) (p : Parts) (s : State) (w : World) → ArePartsOf w.base (accepted_count w) p s
-        → ((i : ℕ) → IfSome (p.objects i) IsObj) → ArePutBack o p → CanBeSaved o (rest_of p.pages s) p.pages w }
+        → ((i : ℕ) → IfSome (p.objects i) IsObj) → HasRoom w s → ArePutBack o p
+        → CanBeSaved o (rest_of p.pages s) p.pages w }
 {
+    object_records::laws::records_tell_slots();
     object_records::laws::records_stand_for_objects();
     object_records::laws::records_tell_tables();
     object_records::laws::lists_are_apart();
