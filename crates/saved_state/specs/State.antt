@@ -59,9 +59,9 @@ HasRing channel base accepted byte out told =
 abbrev pub rest_of : (ℕ → Option (ℕ → ℕ)) → State → Rest
 rest_of pages s = record { content = content_of pages; out = s.out; inputs = s.inputs }
 
--- The parts of a version are a state: it is what the records stand for, sound and swept; the numbers in use are those of
--- its objects and of their pages; and of each channel the entries stand that the device hasn't accepted. No word of the
--- memory is named, and no input.
+-- The parts of a version are a state: it is what the records stand for, sound and swept; the numbers in use are those
+-- of its objects and of their pages; and of each channel the entries stand that the device hasn't accepted. No word of
+-- the memory is named, and no input.
 pub record ArePartsOf (base accepted : ℕ → ℕ) (p : Parts) (s : State) : Type 0 where
   pub state : s ≡ state_of_records p.objects (rest_of p.pages s)
   pub sound : IsSoundState s
