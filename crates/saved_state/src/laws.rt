@@ -32,7 +32,8 @@ pub fn devices_leave_words()
         → ReadsAs words version base (λ i. if i == channel then accepted i + 1 else accepted i) s }
 {}
 
-/// Running objects that can be saved are the parts of the state that they are, and each has a record in range.
+/// Running objects that can be saved are the parts of the state that they are. What no plain state tells of them is in
+/// range, so that each has a record.
 pub fn running_objects_are_parts()
     ensures parts { (o : Objects) (rest : Rest) (numbers : ℕ → Bool) (pages : ℕ → Option (ℕ → ℕ)) (w : World)
         → CanBeSaved o rest pages w → AreNumbersOf numbers (state_of o rest)
