@@ -59,4 +59,4 @@ pub record HasFixedSlots (o : Objects) : Type 0 where
   pub outputs : (channel : ℕ) → channel < OUTPUT_CHANNELS
       → IsOutputRing channel (slot_at o (FIRST_OUTPUT_RING + channel))
   pub input : slot_at o INPUT_RING
-      ≡ slots.Ring (record { channel = OUTPUT_CHANNELS; fresh = false; count = 0; page = page_of_channel 0 })
+      ≡ slots.Ring (record { channel = OUTPUT_CHANNELS; fresh = false; count = 0; page = 0 })

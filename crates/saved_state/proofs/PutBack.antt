@@ -21,11 +21,11 @@ use Rattle.kobj_table.specs.Objects.{Rest, slot_at, state_of, HasNoStrays}
 use Rattle.kobj_codec.specs.declared.obj.Obj.{Obj}
 use Rattle.kobj_codec.specs.Objects.{IsObj}
 use Rattle.object_records.specs.Records.{record_of, record_at, slot_of, object_in, is_scheduler_in, state_of_records, HasOwnLists}
-use Rattle.object_records.specs.Ranges.{IsSoundState, IsUntoldInRange}
+use Rattle.object_records.specs.Ranges.{IsOutputRing, IsSoundState, IsUntoldInRange}
 use Rattle.call_readings.specs.Kernel.{CountsEntries}
 use Rattle.out_gate.specs.Entries.{HasEntry}
 use Rattle.saved_state.specs.State.{AreOfRecords, ArePartsOf, content_of, rest_of}
-use Rattle.saved_state.specs.Running.{ArePutBack, CanBeSaved, IsOutputRing}
+use Rattle.saved_state.specs.Running.{ArePutBack, CanBeSaved}
 use Rattle.saved_state.proofs.Records.{objects_are}
 use Rattle.saved_state.proofs.Slots.{scheduler_slot, scheduler_cores, scheduler_told, untold_of, input_slot, output_at, slot_count, slot_channel}
 

@@ -1,42 +1,21 @@
 -- How running objects, with the words of their pages, are a state that can be saved.
-use Rattle.std.specs.Prelude.{◌≡◌, ℕ, ◌+◌, ◌<◌, ◌≤◌, Bool, true, false, [], length, Option, is_some}
+use Rattle.std.specs.Prelude.{◌≡◌, ℕ, ◌<◌, ◌≤◌, Bool, true, [], length, Option, is_some}
 use Rattle.sls_base.specs.declared.limits.TheConstants.{OBJECTS, OUTPUT_CHANNELS, PAGES}
-use Rattle.sls_base.specs.declared.fixed.TheConstants.{FIRST_OUTPUT_RING, INPUT_RING, SCHEDULER}
 use Rattle.pmem_layout.specs.declared.number.Number.TheVariants.{Object, Page}
 use Rattle.pmem_layout.specs.Numbers.{index_of}
-use Rattle.plain_model.specs.Objects.{page_of_channel}
 use Rattle.plain_model.specs.States.{State}
 use Rattle.plain_model.specs.Worlds.{World, has_page}
 use Rattle.plain_model.specs.Sweep.{swept}
 use Rattle.plain_laws.specs.Bounds.{HasRoom}
-use Rattle.kobj_table.specs.declared.slot.Slot.{Slot}
-use Rattle.kobj_table.specs.declared.slot.Cores.{Cores}
 use Rattle.kobj_table.specs.declared.objects.Objects.{Objects}
 use Rattle.kobj_table.specs.Objects.{Rest, slot_at, state_of, HasNoStrays}
 use Rattle.object_records.specs.Records.{record_at, HasOwnLists}
-use Rattle.object_records.specs.Ranges.{IsCores, IsSoundState}
+use Rattle.object_records.specs.Ranges.{HasFixedSlots, IsSoundState}
 use Rattle.object_records.specs.Pages.{is_content}
 use Rattle.call_readings.specs.Kernel.{CountsEntries}
 use Rattle.out_gate.specs.Entries.{EntriesStand}
 use Rattle.durable_state.specs.Parts.{Parts}
 use Rattle.saved_state.specs.State.{AreOfRecords, content_of}
-
--- The ring of an output channel stands at its number, with its channel and its page.
-pub record IsOutputRing (channel : ℕ) (slot : Slot) : Type 0 where
-  pub fresh : Bool
-  pub count : ℕ
-  pub is : slot ≡ Slot.Ring (record { channel = channel; fresh = fresh; count = count; page = page_of_channel channel })
-
--- The objects that are always there stand at their numbers, with what no plain state tells of them: the scheduler has
--- 1 to 8 cores, and each ring its page.
-pub record HasFixedSlots (o : Objects) : Type 0 where
-  pub cores : Cores
-  pub scheduler : slot_at o SCHEDULER ≡ Slot.Scheduler cores
-  pub cores_are : IsCores cores
-  pub outputs : (channel : ℕ) → channel < OUTPUT_CHANNELS
-      → IsOutputRing channel (slot_at o (FIRST_OUTPUT_RING + channel))
-  pub input : slot_at o INPUT_RING
-      ≡ Slot.Ring (record { channel = OUTPUT_CHANNELS; fresh = false; count = 0; page = page_of_channel 0 })
 
 -- The words of pages are those of the objects, and the content that page numbers stand for agrees with them.
 pub record HaveWords (o : Objects) (content : ℕ → ℕ → ℕ) (pages : ℕ → Option (ℕ → ℕ)) : Type 0 where
