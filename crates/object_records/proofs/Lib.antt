@@ -5,3 +5,4 @@ pub mod Lists
 pub mod Ranged
 pub mod Recorded
 pub mod Apart
+pub mod Marking

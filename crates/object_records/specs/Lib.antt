@@ -1,3 +1,4 @@
 pub mod Records
 pub mod Ranges
 pub mod Pages
+pub mod Marks
