@@ -1,9 +1,11 @@
 -- Pages whose content is no part of the state.
-use Rattle.std.specs.Prelude.{◌≡◌, ◌≢◌, ℕ, zero, suc, ◌<◌, Bool, true, false, List, [], ◌∷◌, map, length, Contains, Option, Some, slice_index_or}
+use Rattle.std.specs.Prelude.{◌≡◌, ◌≢◌, ℕ, zero, suc, ◌<◌, Bool, true, false, List, [], ◌∷◌, map, length, Contains, Option, Some, slice_get, slice_index_or}
 use Rattle.std.proofs.Common.{refl, ap, subst, ◌∙◌, arith}
 use Rattle.std.proofs.lemmas.Bool.{ne_eqb}
+use Rattle.std.proofs.lemmas.Option.{slice_get_within, get_or_from_slice_get}
 use mathlib.Core.Path.{fun_ext}
 use Rattle.mem_space.specs.declared.memory.MemPage.{MemPage}
+use Rattle.plain_state.specs.Memory.{place_in}
 use Rattle.plain_state.specs.Objects.{Memory, Object, OutputRing, Page, page_numbers, page_of_channel}
 use Rattle.kobj_table.specs.declared.objects.Objects.{Objects}
 use Rattle.kobj_table.specs.declared.slot.Slot.{Slot}
@@ -11,8 +13,9 @@ use Rattle.kobj_table.specs.Slots.{memory_in, object_of, page_of}
 use Rattle.kobj_table.specs.Objects.{slot_at, object_at, Rest, state_of}
 use Rattle.plain_laws.specs.Sound.{AreApart}
 use Rattle.link_lists.specs.Lists.{list_at}
-use Rattle.page_bytes.specs.Bytes.{IsSameOnPages, with_bytes}
+use Rattle.page_bytes.specs.Bytes.{IsSameOnPages, SeesPage, with_bytes}
 use Rattle.page_bytes.proofs.Contents.{no_mem}
+use Rattle.page_bytes.proofs.Seen.{stands_at}
 use Rattle.page_bytes.proofs.Stores.{length_numbers, number_at}
 
 -- the pages of a list
@@ -86,14 +89,28 @@ no_ring content (Slot.Scheduler c) listed page channel has e = absurd (omega (ar
 ring_has : (object : Option Object) (channel : ℕ) → object ≡ Some (OutputRing channel) → Contains (page_numbers object) (page_of_channel channel)
 ring_has object channel is = rw is (0, omega arith, refl)
 
-pub ring_page_alike : (o : Objects) (rest : Rest) (id channel at : ℕ) (bytes : List ℕ) → AreApart (state_of o rest) → object_at rest.content o id ≡ Some (OutputRing channel)
-    → IsSameOnPages o (with_bytes rest.content (page_of_channel channel) at bytes) rest.content
+-- no page of a memory object is that of a ring
+pub ring_apart : (o : Objects) (rest : Rest) (i id channel : ℕ) (page : MemPage) → AreApart (state_of o rest) → object_at rest.content o id ≡ Some (OutputRing channel)
+    → Contains (memory_in (slot_at o i)).pages.items page → page.page ≢ page_of_channel channel
 unfolding state_of
-ring_page_alike o rest id channel at bytes apart ring i page offset has stored =
+ring_apart o rest i id channel page apart ring has same =
     let own : Contains (page_numbers (object_at rest.content o i)) page.page = has_number rest.content (slot_at o i) (list_at o.links i) page has in
-    let other : page.page ≢ page_of_channel channel =
-    λ same.
     let here : Contains (page_numbers (object_at rest.content o i)) (page_of_channel channel) = subst (λ (n : ℕ). Contains (page_numbers (object_at rest.content o i)) n) same own in
     let id_is : i ≡ id = apart.apart i id (page_of_channel channel) here (ring_has (object_at rest.content o id) channel ring) in
-    no_ring rest.content (slot_at o i) (list_at o.links i) page channel has (ap (λ (j : ℕ). object_at rest.content o j) id_is ∙ ring) in
-    rw (ne_eqb page.page (page_of_channel channel) other) refl
+    no_ring rest.content (slot_at o i) (list_at o.links i) page channel has (ap (λ (j : ℕ). object_at rest.content o j) id_is ∙ ring)
+
+pub ring_page_alike : (o : Objects) (rest : Rest) (id channel at : ℕ) (bytes : List ℕ) → AreApart (state_of o rest) → object_at rest.content o id ≡ Some (OutputRing channel)
+    → IsSameOnPages o (with_bytes rest.content (page_of_channel channel) at bytes) rest.content
+ring_page_alike o rest id channel at bytes apart ring i page offset has stored =
+    rw (ne_eqb page.page (page_of_channel channel) (ring_apart o rest i id channel page apart ring has)) refl
+
+found_in : (pages : List MemPage) (k : ℕ) (page : MemPage) → slice_get pages k ≡ Some page → Contains pages page
+found_in pages k page there = (k, slice_get_within pages k page there, get_or_from_slice_get pages k page _ there)
+
+-- the page that a space shows, where something was stored to it, is such a page
+pub ring_unshown : (o : Objects) (rest : Rest) (space right at id channel : ℕ) (page : MemPage) → AreApart (state_of o rest) → SeesPage o space right at page → page.fresh ≡ false
+    → object_at rest.content o id ≡ Some (OutputRing channel) → page.page ≢ page_of_channel channel
+ring_unshown o rest space right at id channel page apart sees stored ring =
+    let s = stands_at o rest.content space right at page sees stored in
+    let place = place_in at s.region in
+    ring_apart o rest place.memory id channel page apart ring (found_in (memory_in (slot_at o place.memory)).pages.items place.page page s.stands.there)

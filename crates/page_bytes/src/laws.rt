@@ -1,6 +1,6 @@
 //! Laws. Each of these functions does nothing: its contract is the law.
 
-ghost use Rattle.std.specs.Prelude.{◌≡◌, ℕ, ◌+◌, ◌%◌, ◌<◌, ◌≤◌, false, true, List, ◌++◌, Option, Some, find, length};
+ghost use Rattle.std.specs.Prelude.{◌≡◌, ◌≢◌, ℕ, ◌+◌, ◌%◌, ◌<◌, ◌≤◌, false, true, List, ◌++◌, Option, Some, find, length};
 ghost use Rattle.sls_base.specs.declared.limits.TheConstants.{PAGE_BYTES, PAGES};
 ghost use Rattle.mem_space.specs.declared.memory.MemPage.{MemPage};
 ghost use Rattle.plain_state.specs.declared.objects.Region.{Region};
@@ -75,4 +75,11 @@ pub fn other_pages_are_not_seen()
         → AreApart (state_of objects rest) → object_at rest.content objects id ≡ Some (OutputRing channel)
         → state_of objects (record rest { content = with_bytes rest.content (page_of_channel channel) at bytes })
         ≡ state_of objects rest }
+{}
+
+/// A page that a space shows, and to which something was stored before, is not that of an output ring.
+pub fn pages_of_rings_are_apart()
+    ensures { (objects : Objects) (rest : Rest) (space right at id channel : ℕ) (page : MemPage)
+        → AreApart (state_of objects rest) → SeesPage objects space right at page → page.fresh ≡ false
+        → object_at rest.content objects id ≡ Some (OutputRing channel) → page.page ≢ page_of_channel channel }
 {}

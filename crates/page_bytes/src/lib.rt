@@ -7,7 +7,8 @@ mod load;
 mod store;
 
 pub use laws::{
-    other_pages_are_not_seen, stores_at_addresses, stores_change_content, stores_in_parts,
+    other_pages_are_not_seen, pages_of_rings_are_apart, stores_at_addresses, stores_change_content,
+    stores_in_parts,
 };
 pub use load::{byte_on_page, bytes_at};
 pub use store::{MOST_BYTES, store_bytes, store_number};
