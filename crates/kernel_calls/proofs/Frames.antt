@@ -15,7 +15,7 @@ use Rattle.kobj_table.specs.declared.slot.Slot.{Slot}
 use Rattle.kobj_table.specs.Slots.{is_scheduler, object_of}
 use Rattle.kobj_table.specs.Objects.{Rest, slot_at, object_at, Puts}
 use Rattle.call_readings.specs.Kernel.{world_of, IsCounted}
-use Rattle.kernel_calls.specs.declared.calls.Calls.{Calls}
+use Rattle.kernel_calls.specs.declared.runtime.Runtime.{Runtime}
 use Rattle.kernel_calls.specs.declared.done.Done.{Done}
 use Rattle.kernel_calls.specs.Does.{Does, Tells, IsQuiet}
 use Rattle.kernel_calls.proofs.Objects.{AllTold, all_told, told, put_gives}
@@ -28,7 +28,7 @@ pub record Changes (content : ℕ → ℕ → ℕ) (o n : Objects) (changes : Li
   pub queue : list_at n.links RUN_QUEUE ≡ list_at o.links RUN_QUEUE ++ wakes
   pub scheduler : slot_at n SCHEDULER ≡ slot_at o SCHEDULER
 
-made_of : (k k' : Calls) (rest : Rest) (w : World) (e : Effect) (done : Done) → Changes rest.content k.objects k'.objects e.changes e.wakes →
+made_of : (k k' : Runtime) (rest : Rest) (w : World) (e : Effect) (done : Done) → Changes rest.content k.objects k'.objects e.changes e.wakes →
     k'.numbers ≡ k.numbers → Tells done e → IsCounted k.numbers (world_of k.objects rest w) → IsQuiet e → Does k k' rest w e done
 made_of k k' rest w e done c numbers tells h quiet = record {
   objects = c.objects;
@@ -41,7 +41,7 @@ made_of k k' rest w e done c numbers tells h quiet = record {
 }
 
 -- a call whose effect is this one
-pub changed : {k k' : Calls} {rest : Rest} {w : World} {e : Effect} {done : Done} → (e' : Effect) → e ≡ e' → Changes rest.content k.objects k'.objects e'.changes e'.wakes →
+pub changed : {k k' : Runtime} {rest : Rest} {w : World} {e : Effect} {done : Done} → (e' : Effect) → e ≡ e' → Changes rest.content k.objects k'.objects e'.changes e'.wakes →
     k'.numbers ≡ k.numbers → Tells done e' → IsCounted k.numbers (world_of k.objects rest w) → IsQuiet e' → Does k k' rest w e done
 changed {k} {k'} {rest} {w} {e} {done} e' same c numbers tells h quiet = subst (λ (x : Effect). Does k k' rest w x done) (sym same) (made_of k k' rest w e' done c numbers tells h quiet)
 
@@ -67,10 +67,10 @@ one_put content o n id slot object p is all scheduler other = record {
 -- what is told of an answer is told of each effect that answers so
 pub answered : {done : Done} → (thread : ThreadRecord) (given answer : ℕ) (changes : List Change) (wakes : List ℕ) → Tells done (answers thread given) → given ≡ answer →
     Tells done (record (answers thread answer) { changes = changes; wakes = wakes })
-answered thread given answer changes wakes tells same = record { regs = tells.regs ∙ rw same refl; goes = tells.goes; wishes = tells.wishes }
+answered thread given answer changes wakes tells same = record { regs = tells.regs ∙ rw same refl; goes = tells.goes; takes = tells.takes; wishes = tells.wishes }
 
 -- a call that changes nothing
-pub unchanged : {k : Calls} {rest : Rest} {w : World} {e : Effect} {done : Done} → e.changes ≡ [] → e.wakes ≡ [] → Tells done e → IsCounted k.numbers (world_of k.objects rest w) → IsQuiet e →
+pub unchanged : {k : Runtime} {rest : Rest} {w : World} {e : Effect} {done : Done} → e.changes ≡ [] → e.wakes ≡ [] → Tells done e → IsCounted k.numbers (world_of k.objects rest w) → IsQuiet e →
     Does k k rest w e done
 unchanged {k} {rest} {w} {e} {done} changes wakes tells h quiet = record {
   objects = λ i. sym (ap (λ (cs : List Change). with_changes (object_at rest.content k.objects) cs i) changes);

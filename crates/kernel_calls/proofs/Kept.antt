@@ -9,7 +9,7 @@ use Rattle.link_lists.specs.Lists.{IsFree}
 use Rattle.kobj_table.specs.declared.objects.Objects.{Objects}
 use Rattle.kobj_table.specs.declared.slot.Slot.{Slot}
 use Rattle.kobj_table.specs.Objects.{slot_at, Puts, HasNoStrays}
-use Rattle.kernel_calls.specs.declared.calls.Calls.{Calls}
+use Rattle.kernel_calls.specs.declared.runtime.Runtime.{Runtime}
 use Rattle.kernel_calls.specs.declared.done.Done.{Done}
 use Rattle.kernel_calls.specs.Does.{Keeps}
 
@@ -36,5 +36,5 @@ rings_lent o n None thread put same = rings_same o n (ap (λ (x : Objects). x.sl
 rings_lent o n (Some id) thread put same = rings_put put (λ ring is. cc)
 
 -- where nothing changes, all is kept
-pub keeps_quiet : (k : Calls) (me : ℕ) (done : Done) → HasNoStrays k.objects → IsFree k.objects.links me → Keeps k k me done
+pub keeps_quiet : (k : Runtime) (me : ℕ) (done : Done) → HasNoStrays k.objects → IsFree k.objects.links me → Keeps k k me done
 keeps_quiet k me done strays free = record { caller = refl; strays = strays; free = λ left back. free; rings = λ id ring is. is }

@@ -25,3 +25,9 @@ pub mod Touched
 pub mod Shown
 pub mod Needed
 pub mod Prepared
+pub mod Contents
+pub mod Found
+pub mod Waiting
+pub mod Queued
+pub mod Getting
+pub mod Putting

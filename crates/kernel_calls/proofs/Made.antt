@@ -24,7 +24,7 @@ use Rattle.kobj_table.specs.Slots.{object_of, page_of}
 use Rattle.kobj_table.specs.Objects.{Rest, state_of, object_at}
 use Rattle.call_readings.specs.NumberSets.{uses_object, uses_page}
 use Rattle.call_readings.specs.Kernel.{world_of, IsCounted}
-use Rattle.kernel_calls.specs.declared.calls.Calls.{Calls}
+use Rattle.kernel_calls.specs.declared.runtime.Runtime.{Runtime}
 use Rattle.kernel_calls.specs.declared.done.Done.{Done}
 use Rattle.kernel_calls.specs.Does.{Does, Makes}
 use Rattle.kernel_calls.specs.Pages.{is_among}
@@ -117,7 +117,7 @@ pages_made objects id own i object group false true same same' g x = x ∙ ap (�
 pages_made objects id own i object group false false same same' g x = refl
 
 -- so the numbers of objects are those in use
-pub counted_objects : (k k' : Calls) (rest : Rest) (w : World) (thread : ThreadRecord) (object : Object) (done : Done) → Makes k k' rest w thread object done →
+pub counted_objects : (k k' : Runtime) (rest : Rest) (w : World) (thread : ThreadRecord) (object : Object) (done : Done) → Makes k k' rest w thread object done →
     IsCounted k.numbers (world_of k.objects rest w) → (i : ℕ) → uses_object k'.numbers i ≡ (is_some (object_at rest.content k'.objects i) || is_some (w.saved.objects i))
 unfolding world_of state_of
 counted_objects k k' rest w thread object done m h i =
@@ -134,7 +134,7 @@ some_page : (ℕ → List ℕ) → ℕ → Bool
 some_page numbers page = list_any (λ i. list_any (λ number. number == page) (numbers i)) every_object
 
 -- a call that makes an object without pages
-pub made : (k k' : Calls) (rest : Rest) (w : World) (thread : ThreadRecord) (object : Object) (done : Done) → Makes k k' rest w thread object done →
+pub made : (k k' : Runtime) (rest : Rest) (w : World) (thread : ThreadRecord) (object : Object) (done : Done) → Makes k k' rest w thread object done →
     page_numbers (Some object) ≡ [] → IsCounted k.numbers (world_of k.objects rest w) → Does k k' rest w (makes (world_of k.objects rest w) thread object) done
 unfolding world_of state_of has_page some_page
 made k k' rest w thread object done m no_pages h =
@@ -200,7 +200,7 @@ made_there : (objects : ℕ → Option Object) (id own : ℕ) (object group : Ob
 made_there objects id own object group apart = rw (ne_eqb id own apart) (rw (eq-eqb id id refl) refl)
 
 -- the pages of the objects, where the new one has these
-pages_with : (k m : Calls) (rest : Rest) (w : World) (thread : ThreadRecord) (object : Object) (done : Done) (page : ℕ) → Makes k m rest w thread object done → new_id (world_of k.objects rest w) < OBJECTS →
+pages_with : (k m : Runtime) (rest : Rest) (w : World) (thread : ThreadRecord) (object : Object) (done : Done) (page : ℕ) → Makes k m rest w thread object done → new_id (world_of k.objects rest w) < OBJECTS →
     some_page (λ i. page_numbers (object_at rest.content m.objects i)) page ≡ (some_page (λ i. page_numbers (object_at rest.content k.objects i)) page || is_among (page_numbers (Some object)) page)
 unfolding world_of state_of some_page
 pages_with k m rest w thread object done page makes_it below =
@@ -218,7 +218,7 @@ pages_with k m rest w thread object done page makes_it below =
     (ap (λ (o : Option Object). page_numbers o) (makes_it.objects i) ∙ pages_other objects id thread.group i object _ (i == thread.group) (i == id) refl refl (ne_eqb i id other) (sym (ap (λ (t : Bool × List ℕ). t.1) group))))
     ∙ ap (λ (b : Bool). list_any f every_object || (b && is_among (page_numbers (Some object)) page)) (every_one id below)
 
-pub made_with_pages : (k m k' : Calls) (rest : Rest) (w : World) (thread : ThreadRecord) (object : Object) (done : Done) → Makes k m rest w thread object done → new_id (world_of k.objects rest w) < OBJECTS →
+pub made_with_pages : (k m k' : Runtime) (rest : Rest) (w : World) (thread : ThreadRecord) (object : Object) (done : Done) → Makes k m rest w thread object done → new_id (world_of k.objects rest w) < OBJECTS →
     k'.objects ≡ m.objects → k'.numbers.objects ≡ m.numbers.objects → ((page : ℕ) → uses_page k'.numbers page ≡ (uses_page k.numbers page || is_among (page_numbers (Some object)) page)) →
     IsCounted k.numbers (world_of k.objects rest w) → Does k k' rest w (makes (world_of k.objects rest w) thread object) done
 unfolding world_of state_of has_page some_page

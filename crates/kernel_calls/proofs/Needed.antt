@@ -43,13 +43,12 @@ use Rattle.kobj_table.specs.declared.objects.Objects.{Objects}
 use Rattle.kobj_table.specs.declared.slot.Slot.{Slot}
 use Rattle.kobj_table.specs.Slots.{memory_in, object_of, page_of, bytes_of}
 use Rattle.kobj_table.specs.Objects.{Rest, slot_at, object_at, state_of}
-use Rattle.call_readings.specs.declared.devices.Devices.{Devices}
 use Rattle.call_readings.specs.Content.{is_page_home, Reads}
 use Rattle.call_readings.specs.Kernel.{world_of, IsCounted, IsAttached, IsOfWorld}
 use Rattle.call_readings.specs.Need.{has_page, IsAtHome}
 use Rattle.page_bytes.specs.Bytes.{SeesPage}
 use Rattle.kernel_calls.specs.declared.calls.Calls.{Calls}
-use Rattle.kernel_calls.specs.Kernel.{Holds}
+use Rattle.kernel_calls.specs.Kernel.{Holds, devices_of}
 use Rattle.kernel_calls.specs.Instructions.{plan_of, ShowsHome}
 use Rattle.kernel_calls.specs.Instructions.{ShowsStored}
 use Rattle.kernel_calls.specs.Needed.{has_fresh, IsPrepared, HasItsPages, HasPutPages, HasGetPages, count_got}
@@ -350,43 +349,43 @@ there_by_state table covered beside o rest m w core c is prepared reads placed t
 
 -- What holds of the kernel's values and a world holds of the world that they are.
 
-pub same_world : (k : Calls) (devices : Devices) (m : Memory) (rest : Rest) (w : World) → Holds k devices m rest w → w ≡ world_of k.objects rest w
+pub same_world : (k : Calls) (accepted : List ℕ) (m : Memory) (rest : Rest) (w : World) → Holds k accepted m rest w → w ≡ world_of k.runtime.objects rest w
 unfolding world_of
-same_world k devices m rest w holds = ap (λ (s : State). record w { now = s }) holds.now
+same_world k accepted m rest w holds = ap (λ (s : State). record w { now = s }) holds.now
 
-module _ (covered : IsCoveredByOne) (k : Calls) (devices : Devices) (m : Memory) (rest : Rest) (w : World) (core : ℕ) (c : Chosen) (holds : Holds k devices m rest w) where
+module _ (covered : IsCoveredByOne) (k : Calls) (accepted : List ℕ) (m : Memory) (rest : Rest) (w : World) (core : ℕ) (c : Chosen) (holds : Holds k accepted m rest w) where
   abbrev its_thread : World → ThreadRecord
   its_thread v = thread_at v.now c.occupant.thread
 
-  pub pages_there : IsTable → StandBeside → IsPrepared k.objects m w core → chosen w.now core ≡ Some c → HasItsPages k.objects m (its_thread w)
+  pub pages_there : IsTable → StandBeside → IsPrepared k.runtime.objects m w core → chosen w.now core ≡ Some c → HasItsPages k.runtime.objects m (its_thread w)
   unfolding world_of
   pages_there table beside =
-      subst (λ (v : World). IsPrepared k.objects m v core → chosen v.now core ≡ Some c → HasItsPages k.objects m (its_thread v)) (sym (same_world k devices m rest w holds))
-      (λ prepared is. there_by_state table covered beside k.objects rest m w core c is prepared holds.content
+      subst (λ (v : World). IsPrepared k.runtime.objects m v core → chosen v.now core ≡ Some c → HasItsPages k.runtime.objects m (its_thread v)) (sym (same_world k accepted m rest w holds))
+      (λ prepared is. there_by_state table covered beside k.runtime.objects rest m w core c is prepared holds.content
       (subst IsPlaced holds.now holds.sound.placed.0) (subst HasThreads holds.now holds.sound.threads.0) (subst NameWhatIs holds.now holds.sound.names.0))
 
-  pub puts_there : IsPrepared k.objects m w core → chosen w.now core ≡ Some c → plan_of w.now (its_thread w) ≡ Some Call → call_named (its_thread w) ≡ Some Put →
-      refusal_of w c.occupant.thread (its_thread w) Put ≡ None → HasPutPages k.objects m w.now (its_thread w)
+  pub puts_there : IsPrepared k.runtime.objects m w core → chosen w.now core ≡ Some c → plan_of w.now (its_thread w) ≡ Some Call → call_named (its_thread w) ≡ Some Put →
+      refusal_of w c.occupant.thread (its_thread w) Put ≡ None → HasPutPages k.runtime.objects m w.now (its_thread w)
   unfolding world_of
   puts_there =
-      subst (λ (v : World). IsPrepared k.objects m v core → chosen v.now core ≡ Some c → plan_of v.now (its_thread v) ≡ Some Call → call_named (its_thread v) ≡ Some Put →
-      refusal_of v c.occupant.thread (its_thread v) Put ≡ None → HasPutPages k.objects m v.now (its_thread v)) (sym (same_world k devices m rest w holds))
-      (λ prepared is. put_there covered k.objects rest m w core c is prepared)
+      subst (λ (v : World). IsPrepared k.runtime.objects m v core → chosen v.now core ≡ Some c → plan_of v.now (its_thread v) ≡ Some Call → call_named (its_thread v) ≡ Some Put →
+      refusal_of v c.occupant.thread (its_thread v) Put ≡ None → HasPutPages k.runtime.objects m v.now (its_thread v)) (sym (same_world k accepted m rest w holds))
+      (λ prepared is. put_there covered k.runtime.objects rest m w core c is prepared)
 
-  pub gets_there : IsPrepared k.objects m w core → chosen w.now core ≡ Some c → plan_of w.now (its_thread w) ≡ Some Call → call_named (its_thread w) ≡ Some Get →
-      refusal_of w c.occupant.thread (its_thread w) Get ≡ None → HasGetPages k.objects m w.now (its_thread w)
+  pub gets_there : IsPrepared k.runtime.objects m w core → chosen w.now core ≡ Some c → plan_of w.now (its_thread w) ≡ Some Call → call_named (its_thread w) ≡ Some Get →
+      refusal_of w c.occupant.thread (its_thread w) Get ≡ None → HasGetPages k.runtime.objects m w.now (its_thread w)
   unfolding world_of
   gets_there =
-      subst (λ (v : World). IsPrepared k.objects m v core → chosen v.now core ≡ Some c → plan_of v.now (its_thread v) ≡ Some Call → call_named (its_thread v) ≡ Some Get →
-      refusal_of v c.occupant.thread (its_thread v) Get ≡ None → HasGetPages k.objects m v.now (its_thread v)) (sym (same_world k devices m rest w holds))
-      (λ prepared is. get_there covered k.objects rest m w core c is prepared (subst NameWhatIs holds.now holds.sound.names.0))
+      subst (λ (v : World). IsPrepared k.runtime.objects m v core → chosen v.now core ≡ Some c → plan_of v.now (its_thread v) ≡ Some Call → call_named (its_thread v) ≡ Some Get →
+      refusal_of v c.occupant.thread (its_thread v) Get ≡ None → HasGetPages k.runtime.objects m v.now (its_thread v)) (sym (same_world k accepted m rest w holds))
+      (λ prepared is. get_there covered k.runtime.objects rest m w core c is prepared (subst NameWhatIs holds.now holds.sound.names.0))
 
-pub of_world : (k : Calls) (devices : Devices) (m : Memory) (rest : Rest) (w : World) → Holds k devices m rest w → IsOfWorld k.objects k.numbers devices m rest w
-of_world k devices m rest w holds =
-    let same = same_world k devices m rest w holds in
+pub of_world : (k : Calls) (accepted : List ℕ) (m : Memory) (rest : Rest) (w : World) → Holds k accepted m rest w → IsOfWorld k.runtime.objects k.runtime.numbers (devices_of accepted k.inputs) m rest w
+of_world k accepted m rest w holds =
+    let same = same_world k accepted m rest w holds in
     record {
-      counted = subst (λ (v : World). IsCounted k.numbers v) same holds.counted;
-      attached = subst (λ (v : World). IsAttached k.objects devices v) same holds.attached;
+      counted = subst (λ (v : World). IsCounted k.runtime.numbers v) same holds.counted;
+      attached = subst (λ (v : World). IsAttached k.runtime.objects (devices_of accepted k.inputs) v) same holds.attached;
       content = holds.content;
       threads = subst HasThreads holds.now holds.sound.threads.0;
     }

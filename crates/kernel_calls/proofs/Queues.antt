@@ -17,7 +17,7 @@ use Rattle.kobj_table.specs.declared.objects.Objects.{Objects}
 use Rattle.kobj_table.specs.declared.slot.Slot.{Slot}
 use Rattle.kobj_table.specs.Slots.{is_scheduler, has_list, object_of}
 use Rattle.kobj_table.specs.Objects.{Rest, slot_at, object_at, Puts, HasNoStrays, HasNoStraysAt}
-use Rattle.kernel_calls.specs.declared.calls.Calls.{Calls}
+use Rattle.kernel_calls.specs.declared.runtime.Runtime.{Runtime}
 use Rattle.kernel_calls.specs.declared.done.Done.{Done}
 use Rattle.kernel_calls.specs.Does.{Does}
 use Rattle.kernel_calls.proofs.Objects.{told, given}
@@ -63,7 +63,7 @@ pub still_free : (old new : List (List ℕ)) (list thread other : ℕ) → Appen
 still_free old new list thread other a free apart i has = free_by old new list thread other i (i == list) refl a free apart has
 
 -- a call that wakes nobody, and a thread that then goes to the end of the queue
-pub queued : IsItsSlot → (k m k' : Calls) (rest : Rest) (w : World) (e : Effect) (done : Done) (id : ℕ) → Does k m rest w e done → e.wakes ≡ [] →
+pub queued : IsItsSlot → (k m k' : Runtime) (rest : Rest) (w : World) (e : Effect) (done : Done) (id : ℕ) → Does k m rest w e done → e.wakes ≡ [] →
     k'.objects.slots ≡ m.objects.slots → Appends m.objects.links k'.objects.links RUN_QUEUE id → k'.numbers ≡ m.numbers → is_scheduler (slot_at m.objects SCHEDULER) ≡ true →
     Does k k' rest w (record e { wakes = id ∷ [] }) done
 queued law k m k' rest w e done id d none slots a numbers scheduler =
@@ -73,7 +73,7 @@ queued law k m k' rest w e done id d none slots a numbers scheduler =
       queue = a.last ∙ rw d.queue (rw none (rw (no_more (list_at k.objects.links RUN_QUEUE)) refl));
       scheduler = rw slots d.scheduler;
       counted = rw numbers (counted_kept m.numbers m.objects k'.objects rest w (λ i. ap told (same i)) d.counted);
-      caller = record { regs = d.caller.regs; goes = d.caller.goes; wishes = d.caller.wishes };
+      caller = record { regs = d.caller.regs; goes = d.caller.goes; takes = d.caller.takes; wishes = d.caller.wishes };
       quiet = record { stores = d.quiet.stores; output = d.quiet.output; takes = d.quiet.takes };
     }
 

@@ -143,7 +143,7 @@ any_last test first behind any = list_any-append test first behind ∙ rw any (o
     or_true false = refl
 
 -- so it does among those to which as many values are stored
-stored_any : (test : Place → Bool) (places : List Place) (values : List ℕ) → length places ≤ length values → list_any test places ≡ true → list_any (λ store. test store.place) (stores_at places values) ≡ true
+pub stored_any : (test : Place → Bool) (places : List Place) (values : List ℕ) → length places ≤ length values → list_any test places ≡ true → list_any (λ store. test store.place) (stores_at places values) ≡ true
 stored_any test [] values few any = absurd (cc)
 stored_any test (place ∷ places) [] few any = absurd (omega (arith, few))
 stored_any test (place ∷ places) (value ∷ values) few any =
@@ -152,7 +152,7 @@ stored_any test (place ∷ places) (value ∷ values) few any =
       | inr fail ↦ rw fail (stored_any test places values (omega (arith, few)) (rw fail at any))
     ]
 
-few_places : (regions : List Region) (right at n : ℕ) → length (places_of regions right at n) ≤ n
+pub few_places : (regions : List Region) (right at n : ℕ) → length (places_of regions right at n) ≤ n
 few_places regions right at zero = omega arith
 few_places regions right at (suc n) = one_more (place_of regions right at) (places_of regions right (at + 1) n) (few_places regions right (at + 1) n)
   where

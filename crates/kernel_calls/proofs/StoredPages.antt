@@ -38,7 +38,7 @@ none_stored test m = record {
 
 -- To which page a store's bytes go.
 
-is_first : (objects : ℕ → Option Object) (found : Option Place) (content : ℕ → ℕ → ℕ) (page : MemPage) → Some (page_of content page) ≡ option_map (page_at objects) found →
+pub is_first : (objects : ℕ → Option Object) (found : Option Place) (content : ℕ → ℕ → ℕ) (page : MemPage) → Some (page_of content page) ≡ option_map (page_at objects) found →
     (place : Place) × (found ≡ Some place) × ((page_at objects place).number ≡ page.page)
 is_first objects None content page e = absurd (cc)
 is_first objects (Some place) content page e =

@@ -1,9 +1,9 @@
 -- What a store of a thread comes to.
-use Rattle.std.specs.Prelude.{◌≡◌, ℕ, ◌+◌, ◌%◌, ◌≤◌, ◌==◌, ◌||◌, Bool, true, false, if◌then◌else◌, List, [], ◌∷◌, ◌++◌, drop, map, Option, Some, None, option_map, is_some}
-use Rattle.std.specs.List.{list_any}
+use Rattle.std.specs.Prelude.{◌≡◌, ◌≢◌, ℕ, ◌+◌, ◌%◌, ◌<◌, ◌≤◌, Bool, true, false, if◌then◌else◌, List, [], ◌++◌, drop, Option, Some, None, option_map, is_some}
 use Rattle.std.proofs.Common.{refl, ap, sym, ◌∙◌, arith, inl, inr}
-use mathlib.Core.Path.{fun_ext}
-use Rattle.sls_base.specs.declared.limits.TheConstants.{PAGE_BYTES}
+use Rattle.std.proofs.lemmas.Bool.{ne_eqb}
+use Rattle.sls_base.specs.declared.fixed.TheConstants.{FIRST_OUTPUT_RING}
+use Rattle.sls_base.specs.declared.limits.TheConstants.{OUTPUT_CHANNELS, PAGE_BYTES}
 use Rattle.sls_base.specs.declared.causes.TheConstants.{NO_ACCESS}
 use Rattle.sls_base.specs.declared.rights.TheConstants.{WRITE}
 use Rattle.sls_base.specs.declared.thread.Thread.{Thread as ThreadRecord}
@@ -16,26 +16,26 @@ use Rattle.rv_core.specs.declared.registers.Regs.{Regs}
 use Rattle.pmem_model.specs.Memory.{Memory}
 use Rattle.plain_state.specs.declared.effect.ByteStore.{ByteStore}
 use Rattle.plain_state.specs.declared.effect.Output.{Output}
-use Rattle.plain_state.specs.Objects.{Page, every_object, page_numbers}
+use Rattle.plain_state.specs.Objects.{OutputRing, page_of_channel}
 use Rattle.plain_state.specs.States.{State}
-use Rattle.plain_state.specs.Worlds.{World, has_page}
+use Rattle.plain_state.specs.Worlds.{World}
 use Rattle.plain_state.specs.Memory.{is_covered, with_stores}
 use Rattle.plain_state.specs.Effects.{Change, Effect, goes_on, stops}
 use Rattle.plain_state.specs.Instructions.{seen_by, store_effect}
 use Rattle.plain_state.specs.Ticks.{with_changes, with_output}
 use Rattle.plain_laws.specs.Sound.{AreApart}
 use Rattle.kobj_table.specs.declared.objects.Objects.{Objects}
-use Rattle.kobj_table.specs.declared.slot.Slot.{Slot}
-use Rattle.kobj_table.specs.Slots.{object_of, page_of}
 use Rattle.kobj_table.specs.Objects.{Rest, slot_at, object_at, state_of}
 use Rattle.call_readings.specs.declared.devices.Devices.{Devices}
-use Rattle.call_readings.specs.declared.numbers.NumbersInUse.{NumbersInUse}
 use Rattle.call_readings.specs.Content.{Reads}
-use Rattle.call_readings.specs.Kernel.{world_of, IsCounted, IsOfWorld}
-use Rattle.kernel_calls.specs.declared.calls.Calls.{Calls}
+use Rattle.call_readings.specs.Kernel.{world_of}
+use Rattle.page_bytes.specs.Bytes.{with_bytes, SeesPage}
+use Rattle.out_gate.specs.Entries.{EntriesStand}
+use Rattle.kernel_calls.specs.declared.runtime.Runtime.{Runtime}
 use Rattle.kernel_calls.specs.declared.done.Done.{Done}
 use Rattle.kernel_calls.specs.Does.{Obeys, Tells}
-use Rattle.kernel_calls.specs.Instructions.{Stored}
+use Rattle.kernel_calls.specs.Instructions.{Finds, HasRings, KeepsRingPages, Stored}
+use Rattle.kernel_calls.proofs.Contents.{counted_again, told_same}
 use Rattle.kernel_calls.proofs.Entries.{entries_kept}
 use Rattle.kernel_calls.proofs.Frames.{no_more}
 
@@ -60,68 +60,26 @@ number_found f g None x e = absurd (cc)
 
 module _ (o : Objects) (rest : Rest) (m : Memory) (regs : Regs) (stores : List ByteStore) (thread : ThreadRecord) where
   pub stored_if : (covered : Bool) → covered ≡ true → (content : ℕ → ℕ → ℕ) → Reads content m →
-      state_of o (record rest { content = content }) ≡ record (state_of o rest) { objects = with_stores (state_of o rest).objects stores } →
+      state_of o (record rest { content = content }) ≡ record (state_of o rest) { objects = with_stores (state_of o rest).objects stores } → KeepsRingPages rest.content content →
       Stored o rest (if covered then record (goes_on regs) { stores = stores } else stops thread NO_ACCESS) m
-  stored_if true is content reads state = record { content = content; reads = reads; state = state }
-  stored_if false is content reads state = absurd (cc)
+  stored_if true is content reads state rings = record { content = content; reads = reads; state = state; rings = rings }
+  stored_if false is content reads state rings = absurd (cc)
 
   pub kept_if : (covered : Bool) → covered ≡ false → Reads rest.content m →
       Stored o rest (if covered then record (goes_on regs) { stores = stores } else stops thread NO_ACCESS) m
   kept_if true is reads = absurd (cc)
-  kept_if false is reads = record { content = rest.content; reads = reads; state = refl }
+  kept_if false is reads = record { content = rest.content; reads = reads; state = refl; rings = λ channel offset below. refl }
 
 module _ (done : Done) (regs : Regs) (stores : List ByteStore) (thread : ThreadRecord) where
   pub goes_if : (covered : Bool) → covered ≡ true → Tells done (goes_on regs) →
       Tells done (if covered then record (goes_on regs) { stores = stores } else stops thread NO_ACCESS)
-  goes_if true is tells = record { regs = tells.regs; goes = tells.goes; wishes = tells.wishes }
+  goes_if true is tells = record { regs = tells.regs; goes = tells.goes; takes = tells.takes; wishes = tells.wishes }
   goes_if false is tells = absurd (cc)
 
   pub stops_if : (covered : Bool) → covered ≡ false → Tells done (stops thread NO_ACCESS) →
       Tells done (if covered then record (goes_on regs) { stores = stores } else stops thread NO_ACCESS)
   stops_if true is tells = absurd (cc)
   stops_if false is tells = tells
-
--- What is kept.
-
--- which objects and pages there are doesn't hang on the content of pages
-
-is_there : (first second : ℕ → ℕ → ℕ) (slot : Slot) (threads : List ℕ) → is_some (object_of first slot threads) ≡ is_some (object_of second slot threads)
-is_there first second Slot.Empty threads = refl
-is_there first second (Slot.Group group) threads = refl
-is_there first second (Slot.Thread thread) threads = refl
-is_there first second (Slot.Space space) threads = refl
-is_there first second (Slot.Memory memory) threads = refl
-is_there first second (Slot.Connection connection) threads = refl
-is_there first second (Slot.Notification note) threads = refl
-is_there first second (Slot.Ring ring) threads = refl
-is_there first second (Slot.Scheduler cores) threads = refl
-
-numbers_of : (first second : ℕ → ℕ → ℕ) (pages : List MemPage) → map (λ (p : Page). p.number) (map (page_of first) pages) ≡ map (λ (p : Page). p.number) (map (page_of second) pages)
-numbers_of first second [] = refl
-numbers_of first second (page ∷ pages) = ap (λ (l : List ℕ). page.page ∷ l) (numbers_of first second pages)
-
-has_numbers : (first second : ℕ → ℕ → ℕ) (slot : Slot) (threads : List ℕ) → page_numbers (object_of first slot threads) ≡ page_numbers (object_of second slot threads)
-has_numbers first second (Slot.Memory memory) threads = numbers_of first second memory.pages.items
-has_numbers first second Slot.Empty threads = refl
-has_numbers first second (Slot.Group group) threads = refl
-has_numbers first second (Slot.Thread thread) threads = refl
-has_numbers first second (Slot.Space space) threads = refl
-has_numbers first second (Slot.Connection connection) threads = refl
-has_numbers first second (Slot.Notification note) threads = refl
-has_numbers first second (Slot.Ring ring) threads = refl
-has_numbers first second (Slot.Scheduler cores) threads = refl
-
-some_page : (ℕ → List ℕ) → ℕ → Bool
-some_page numbers page = list_any (λ i. list_any (λ number. number == page) (numbers i)) every_object
-
-counted_stored : (numbers : NumbersInUse) (o : Objects) (rest : Rest) (content : ℕ → ℕ → ℕ) (w : World) → IsCounted numbers (world_of o rest w) →
-    IsCounted numbers (world_of o (record rest { content = content }) w)
-unfolding world_of state_of has_page some_page
-counted_stored numbers o rest content w h = record {
-  objects = λ i. h.objects i ∙ ap (λ (b : Bool). b || is_some (w.saved.objects i)) (is_there rest.content content (slot_at o i) (list_at o.links i));
-  pages = λ page. h.pages page ∙ ap (λ (f : ℕ → List ℕ). some_page f page || has_page w.saved page)
-      (fun_ext (λ i. has_numbers rest.content content (slot_at o i) (list_at o.links i)));
-}
 
 -- Of a store's effect all but this is nothing.
 record StoresAlone (e : Effect) : Type 0 where
@@ -138,13 +96,15 @@ alone_if false regs stores thread = record { changes = refl; wakes = refl; outpu
 store_alone : (s : State) (thread : ThreadRecord) (op at value : ℕ) → StoresAlone (store_effect s thread op at value)
 store_alone s thread op at value = alone_if (is_covered (seen_by s thread) WRITE at (size_of op)) _ _ thread
 
-pub store_takes : (s : State) (thread : ThreadRecord) (op at value : ℕ) → (store_effect s thread op at value).takes ≡ false
-store_takes s thread op at value = (store_alone s thread op at value).takes
+-- the law that entries stand still where the pages of rings have the same bytes
+abbrev pub StandStill : Type 0
+StandStill = (first second : ℕ → ℕ → ℕ) (w : World) (out : ℕ → List (List ℕ)) → ((channel offset : ℕ) → channel < OUTPUT_CHANNELS → second (page_of_channel channel) offset ≡ first (page_of_channel channel) offset) →
+    EntriesStand first w out → EntriesStand second w out
 
-obeyed_alone : (k : Calls) (devices : Devices) (old new : Memory) (rest : Rest) (w : World) (e : Effect) (done : Done) → StoresAlone e → IsOfWorld k.objects k.numbers devices old rest w →
+obeyed_alone : StandStill → (k : Runtime) (devices : Devices) (input : List ℕ) (old new : Memory) (rest : Rest) (w : World) (e : Effect) (done : Done) → StoresAlone e → Finds k devices input old rest w →
     Stored k.objects rest e new → Tells done e → (after : Rest) × Obeys k k rest after new w e done
 unfolding world_of state_of
-obeyed_alone k devices old new rest w e done alone found stored tells = (
+obeyed_alone law k devices input old new rest w e done alone finds stored tells = (
   record rest { content = stored.content },
   record {
     objects = λ i. ap (λ (s : State). s.objects i) stored.state
@@ -153,19 +113,32 @@ obeyed_alone k devices old new rest w e done alone found stored tells = (
     scheduler = refl;
     out = sym (ap (λ (o : Option Output). with_output rest.out o) alone.output);
     inputs = sym (ap (λ (b : Bool). if b then drop 1 rest.inputs else rest.inputs) alone.takes);
-    counted = counted_stored k.numbers k.objects rest stored.content w found.counted;
-    rings = λ id. entries_kept (slot_at k.objects id) (world_of k.objects (record rest { content = stored.content }) w) (world_of k.objects rest w) (λ channel. refl) (found.attached.rings id);
+    counted = counted_again k.numbers k.objects k.objects rest (record rest { content = stored.content }) w (λ i. told_same stored.content rest.content k.objects i) finds.found.counted;
+    rings = λ id. entries_kept (slot_at k.objects id) (world_of k.objects (record rest { content = stored.content }) w) (world_of k.objects rest w) (λ channel. refl) (finds.found.attached.rings id);
     content = stored.reads;
+    entries = law rest.content stored.content w rest.out stored.rings finds.entries;
     caller = tells;
   },
 )
 
 -- a store changes nothing but the content of pages
-pub store_obeyed : (k : Calls) (devices : Devices) (old new : Memory) (rest : Rest) (w : World) (s : State) (thread : ThreadRecord) (op at value : ℕ) (done : Done) →
-    IsOfWorld k.objects k.numbers devices old rest w → Stored k.objects rest (store_effect s thread op at value) new → Tells done (store_effect s thread op at value) →
+pub store_obeyed : StandStill → (k : Runtime) (devices : Devices) (input : List ℕ) (old new : Memory) (rest : Rest) (w : World) (s : State) (thread : ThreadRecord) (op at value : ℕ) (done : Done) →
+    Finds k devices input old rest w → Stored k.objects rest (store_effect s thread op at value) new → Tells done (store_effect s thread op at value) →
     (after : Rest) × Obeys k k rest after new w (store_effect s thread op at value) done
-store_obeyed k devices old new rest w s thread op at value done found stored tells =
-    obeyed_alone k devices old new rest w (store_effect s thread op at value) done (store_alone s thread op at value) found stored tells
+store_obeyed law k devices input old new rest w s thread op at value done finds stored tells =
+    obeyed_alone law k devices input old new rest w (store_effect s thread op at value) done (store_alone s thread op at value) finds stored tells
+
+-- Bytes on a page that a space shows are on the page of no ring.
+
+abbrev pub RingsApart : Type 0
+RingsApart = (objects : Objects) (rest : Rest) (space right at id channel : ℕ) (page : MemPage) → AreApart (state_of objects rest) → SeesPage objects space right at page → page.fresh ≡ false →
+    object_at rest.content objects id ≡ Some (OutputRing channel) → page.page ≢ page_of_channel channel
+
+pub rings_kept : RingsApart → (o : Objects) (rest : Rest) (space right at offset : ℕ) (page : MemPage) (bytes : List ℕ) → AreApart (state_of o rest) → HasRings o → SeesPage o space right at page → page.fresh ≡ false →
+    KeepsRingPages rest.content (with_bytes rest.content page.page offset bytes)
+rings_kept law o rest space right at offset page bytes apart rings sees stored channel k below =
+    let other = law o rest space right at (FIRST_OUTPUT_RING + channel) channel page apart sees stored (rings rest.content channel below) in
+    rw (ne_eqb (page_of_channel channel) page.page (λ same. other (sym same))) refl
 
 -- each page is of one object alone whatever that is
 pub apart_always : ((objects : Objects) (rest : Rest) (content : ℕ → ℕ → ℕ) → AreApart (state_of objects rest) → AreApart (state_of objects (record rest { content = content }))) →

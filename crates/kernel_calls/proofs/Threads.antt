@@ -63,19 +63,19 @@ of_caller thread = record (goes_on (record { pc = next_pc thread; x = thread.x }
 pub caller_answered : {done : Done} → (thread caller : ThreadRecord) (answer : ℕ) (changes : List Change) (wakes : List ℕ) → Tells done (of_caller caller) →
     caller ≡ with_answer thread answer → goes_in thread.state ≡ On → Tells done (record (answers thread answer) { changes = changes; wakes = wakes })
 caller_answered thread caller answer changes wakes tells same awake =
-    record { regs = tells.regs ∙ rw same refl; goes = tells.goes ∙ rw same awake; wishes = tells.wishes }
+    record { regs = tells.regs ∙ rw same refl; goes = tells.goes ∙ rw same awake; takes = tells.takes; wishes = tells.wishes }
 
 -- so does one that was handed values
 pub caller_handed : {done : Done} → (thread caller other : ThreadRecord) (changes : List Change) (wakes : List ℕ) → Tells done (of_caller caller) → caller ≡ with_values thread other →
     goes_in thread.state ≡ On → Tells done (record (goes_on (record { pc = next_pc thread; x = handed thread.x (arg other 1) (arg other 2) })) { changes = changes; wakes = wakes })
 caller_handed thread caller other changes wakes tells same awake =
-    record { regs = tells.regs ∙ rw same refl; goes = tells.goes ∙ rw same awake; wishes = tells.wishes }
+    record { regs = tells.regs ∙ rw same refl; goes = tells.goes ∙ rw same awake; takes = tells.takes; wishes = tells.wishes }
 
 -- one that was given a state in which it waits doesn't
 pub caller_waits : {done : Done} → (thread caller : ThreadRecord) (state : ThreadState) (changes : List Change) (wakes : List ℕ) → Tells done (of_caller caller) →
     caller ≡ with_state thread state → goes_in state ≡ Asleep state → Tells done (record (waits thread state) { changes = changes; wakes = wakes })
 caller_waits thread caller state changes wakes tells same asleep =
-    record { regs = tells.regs ∙ rw same refl; goes = tells.goes ∙ rw same asleep; wishes = tells.wishes }
+    record { regs = tells.regs ∙ rw same refl; goes = tells.goes ∙ rw same asleep; takes = tells.takes; wishes = tells.wishes }
 
 -- and doesn't go to the queue's back
 pub not_back : {done : Done} → (thread caller : ThreadRecord) (state : ThreadState) (left : ℕ) → Tells done (of_caller caller) → caller ≡ with_state thread state →

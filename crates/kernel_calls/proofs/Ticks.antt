@@ -40,7 +40,7 @@ use Rattle.plain_state.specs.Effects.{Effect}
 use Rattle.plain_state.specs.Ticks.{with_changes, thread_after, state_of_effect}
 use Rattle.kobj_table.specs.Slots.{object_of}
 use Rattle.kobj_table.specs.Objects.{object_at}
-use Rattle.kernel_calls.specs.declared.calls.Calls.{Calls}
+use Rattle.kernel_calls.specs.declared.runtime.Runtime.{Runtime}
 use Rattle.kernel_calls.specs.Does.{Obeys, Tells}
 use Rattle.kernel_calls.specs.Ticking.{Settles}
 use Rattle.call_readings.specs.declared.numbers.NumbersInUse.{NumbersInUse}
@@ -83,7 +83,7 @@ sound_left s sound = record {
 }
 
 -- what was made by the last tick is nothing of a world
-pub held_again : (k : Calls) (made : Option ℕ) → Held k → Held (record k { made = made })
+pub held_again : (k : Runtime) (made : Option ℕ) → Held k → Held (record k { made = made })
 held_again k made held = record {
   world = held.world;
   rest = held.rest;
@@ -201,7 +201,7 @@ state_same f g p q a b out out' inputs inputs' x y z u v =
     ∙ ap (λ (l : ℕ → List (List ℕ)). state_made g q b l inputs) u ∙ ap (λ (l : List (List ℕ)). state_made g q b out' l) v
 
 -- the instruction of a thread, and then it is put down: the state is what the effect makes of it
-pub ticked : (k m : Calls) (n : Objects) (rest after : Rest) (memory : Memory) (w : World) (core id slice : ℕ) (e : Effect) (done : Done) → Obeys k m rest after memory w e done →
+pub ticked : (k m : Runtime) (n : Objects) (rest after : Rest) (memory : Memory) (w : World) (core id slice : ℕ) (e : Effect) (done : Done) → Obeys k m rest after memory w e done →
     Settles m.objects n core id (slice - 1) (thread_at (state_of k.objects rest) id) done → is_scheduler (slot_at k.objects SCHEDULER) ≡ true →
     state_of n after ≡ state_of_effect (state_of k.objects rest) core (record { occupant = record { thread = id; slice = slice }; queue = list_at k.objects.links RUN_QUEUE }) e
 unfolding state_of state_of_effect

@@ -21,7 +21,8 @@ use Rattle.kobj_table.specs.Objects.{Rest, slot_at, object_at, HasNoStrays}
 use Rattle.pmem_model.specs.Memory.{Memory}
 use Rattle.call_readings.specs.Content.{Reads}
 use Rattle.call_readings.specs.Kernel.{world_of, CountsEntries, IsCounted}
-use Rattle.kernel_calls.specs.declared.calls.Calls.{Calls}
+use Rattle.out_gate.specs.Entries.{EntriesStand}
+use Rattle.kernel_calls.specs.declared.runtime.Runtime.{Runtime}
 use Rattle.kernel_calls.specs.declared.done.Done.{Done}
 use Rattle.kernel_calls.specs.Kernel.{Allowed}
 
@@ -29,6 +30,7 @@ use Rattle.kernel_calls.specs.Kernel.{Allowed}
 pub record Tells (done : Done) (e : Effect) : Type 0 where
   pub regs : done.regs ≡ e.regs
   pub goes : done.goes ≡ e.goes
+  pub takes : done.takes ≡ e.takes
   pub wishes : done.wishes ≡ e.wishes
 
 -- An effect stores nothing, puts no entry and takes no input.
@@ -39,7 +41,7 @@ pub record IsQuiet (e : Effect) : Type 0 where
 
 -- The objects have changed, the threads that it makes Ready stand at the queue's back, and what becomes of the caller
 -- is told; nothing else is another. The numbers in use are the world's again. The effect does nothing else.
-pub record Does (old new : Calls) (rest : Rest) (w : World) (e : Effect) (done : Done) : Type 0 where
+pub record Does (old new : Runtime) (rest : Rest) (w : World) (e : Effect) (done : Done) : Type 0 where
   pub objects : (i : ℕ) → object_at rest.content new.objects i
       ≡ with_changes (object_at rest.content old.objects) e.changes i
   pub queue : list_at new.objects.links RUN_QUEUE ≡ list_at old.objects.links RUN_QUEUE ++ e.wakes
@@ -50,9 +52,10 @@ pub record Does (old new : Calls) (rest : Rest) (w : World) (e : Effect) (done :
 
 -- The kernel has done an effect of the plain machine, whatever it stores, puts and takes: objects have changed and
 -- pages have been stored to, the threads that it makes Ready stand at the queue's back, entries are put and inputs
--- taken. The numbers in use are the world's again, its rings count its entries, the memory has its pages' bytes, and
--- what becomes of the caller is told. What of the state doesn't stand in the objects was `rest`, and is `after`.
-pub record Obeys (old new : Calls) (rest after : Rest) (m : Memory) (w : World) (e : Effect) (done : Done)
+-- taken. The numbers in use are the world's again, its rings count its entries, of which those that wait stand on the
+-- pages of rings, the memory has its pages' bytes, and what becomes of the caller is told. What of the state doesn't
+-- stand in the objects was `rest`, and is `after`.
+pub record Obeys (old new : Runtime) (rest after : Rest) (m : Memory) (w : World) (e : Effect) (done : Done)
     : Type 0 where
   pub objects : (i : ℕ) → object_at after.content new.objects i
       ≡ with_changes (with_stores (object_at rest.content old.objects) e.stores) e.changes i
@@ -63,19 +66,26 @@ pub record Obeys (old new : Calls) (rest after : Rest) (m : Memory) (w : World) 
   pub counted : IsCounted new.numbers (world_of new.objects after w)
   pub rings : (id : ℕ) → CountsEntries (slot_at new.objects id) (world_of new.objects after w)
   pub content : Reads after.content m
+  pub entries : EntriesStand after.content w after.out
   pub caller : Tells done e
 
 -- Where the thread may do the call, that is what the call's effect says, for each world whose numbers are those in use
 -- and in which the call isn't refused.
-abbrev pub DoesCall : Calls → Calls → ℕ → ThreadRecord → Call → Done → Type 0
+abbrev pub DoesCall : Runtime → Runtime → ℕ → ThreadRecord → Call → Done → Type 0
 DoesCall old new me thread call done =
     (w : World) (rest : Rest) → IsCounted old.numbers (world_of old.objects rest w)
     → refusal_of (world_of old.objects rest w) me thread call ≡ None → Allowed old me thread call
     → Does old new rest w (effect_of_call (world_of old.objects rest w) me thread call) done
 
 -- No list but the run queue and those of objects has threads. The caller stands at its number as it was, and is in no
--- list where it goes to the queue's back. Each ring was there before, as it is.
-pub record Keeps (old new : Calls) (me : ℕ) (done : Done) : Type 0 where
+-- list where it goes to the queue's back.
+pub record Leaves (old new : Runtime) (me : ℕ) (done : Done) : Type 0 where
+  pub caller : slot_at new.objects me ≡ slot_at old.objects me
+  pub strays : HasNoStrays new.objects
+  pub free : (left : ℕ) → at_slice_end left done.goes ≡ Back → IsFree new.objects.links me
+
+-- And each ring was there before, as it is.
+pub record Keeps (old new : Runtime) (me : ℕ) (done : Done) : Type 0 where
   pub caller : slot_at new.objects me ≡ slot_at old.objects me
   pub strays : HasNoStrays new.objects
   pub free : (left : ℕ) → at_slice_end left done.goes ≡ Back → IsFree new.objects.links me
@@ -83,7 +93,7 @@ pub record Keeps (old new : Calls) (me : ℕ) (done : Done) : Type 0 where
 
 -- An object came to stand at the least number that is free, and the caller's own group has a capability to it. Its
 -- number is in use, and no other came to be; of its pages nothing is said.
-pub record Makes (old new : Calls) (rest : Rest) (w : World) (thread : ThreadRecord) (object : Object) (done : Done)
+pub record Makes (old new : Runtime) (rest : Rest) (w : World) (thread : ThreadRecord) (object : Object) (done : Done)
     : Type 0 where
   pub objects : (i : ℕ) → object_at rest.content new.objects i
       ≡ with_changes (object_at rest.content old.objects) (makes (world_of old.objects rest w) thread object).changes i
@@ -97,5 +107,5 @@ pub record Makes (old new : Calls) (rest : Rest) (w : World) (thread : ThreadRec
   pub made : new.made ≡ Some (new_id (world_of old.objects rest w))
   pub caller : Tells done (makes (world_of old.objects rest w) thread object)
 
-abbrev pub KeepsCall : Calls → Calls → ℕ → ThreadRecord → Call → Done → Type 0
+abbrev pub KeepsCall : Runtime → Runtime → ℕ → ThreadRecord → Call → Done → Type 0
 KeepsCall old new me thread call done = Allowed old me thread call → Keeps old new me done

@@ -1,39 +1,54 @@
 -- One instruction of a thread, on the running objects and the bytes of pages.
-use Rattle.std.specs.Prelude.{◌≡◌, ◌⊎◌, Some, ℕ, ◌<◌, Bool, true, false, if◌then◌else◌, Option, None, option_map}
-use Rattle.sls_base.specs.declared.limits.TheConstants.{FRAME_WORDS, INSTRUCTION_BYTES, PAGES}
-use Rattle.sls_base.specs.declared.rights.TheConstants.{READ, WRITE, EXECUTE}
+use Rattle.std.specs.Prelude.{◌≡◌, ◌⊎◌, Some, ℕ, ◌+◌, ◌<◌, All, Bool, List, [], slice_index_or, true, false, if◌then◌else◌, Option, None, option_map}
+use Rattle.sls_base.specs.declared.fixed.TheConstants.{FIRST_OUTPUT_RING}
+use Rattle.sls_base.specs.declared.limits.TheConstants.{FRAME_WORDS, INSTRUCTION_BYTES, OUTPUT_CHANNELS, PAGES}
+use Rattle.sls_base.specs.declared.rights.TheConstants.{WRITE, EXECUTE}
 use Rattle.sls_base.specs.declared.thread.Thread.{Thread as ThreadRecord}
 use Rattle.rv_table.specs.Decoded.{decoded}
 use Rattle.rv_core.specs.Effect.{effect}
 use Rattle.rv_core.specs.declared.registers.Plan.{Plan}
-use Rattle.rv_core.specs.declared.registers.Plan.TheVariants.{Set, Load, Store, Call, Stop}
 use Rattle.pmem_model.specs.Memory.{Memory, word_at, SameHomes, count_up}
 use Rattle.mem_space.specs.declared.memory.MemPage.{MemPage}
-use Rattle.plain_state.specs.Objects.{regions_of}
+use Rattle.plain_state.specs.Objects.{OutputRing, page_of_channel, regions_of}
 use Rattle.plain_state.specs.States.{State}
 use Rattle.plain_state.specs.Worlds.{World}
-use Rattle.plain_state.specs.Calls.{call_named}
 use Rattle.plain_state.specs.Memory.{is_covered, with_stores}
 use Rattle.plain_state.specs.Effects.{Effect, regs_of}
 use Rattle.plain_state.specs.Instructions.{seen_by, fetched, value_at}
+use Rattle.plain_laws.specs.Bounds.{HasRoom, IsEntry}
 use Rattle.plain_laws.specs.Sound.{AreApart}
 use Rattle.kobj_table.specs.declared.objects.Objects.{Objects}
-use Rattle.kobj_table.specs.Objects.{Rest, object_at, state_of}
+use Rattle.kobj_table.specs.Objects.{Rest, slot_at, object_at, state_of}
 use Rattle.call_readings.specs.declared.devices.Devices.{Devices}
 use Rattle.call_readings.specs.Content.{Reads}
-use Rattle.call_readings.specs.Kernel.{world_of, IsCounted, IsAttached, IsOfWorld}
+use Rattle.call_readings.specs.Kernel.{world_of, CountsEntries, IsCounted, IsOfWorld}
 use Rattle.call_readings.specs.Need.{IsAtHome, page_seen}
 use Rattle.page_bytes.specs.Bytes.{SeesPage, word_of_page}
-use Rattle.kernel_calls.specs.declared.calls.Calls.{Calls}
+use Rattle.out_gate.specs.Entries.{EntriesStand}
+use Rattle.kernel_calls.specs.declared.runtime.Runtime.{Runtime}
 use Rattle.kernel_calls.specs.Kernel.{Held}
-use Rattle.kernel_calls.specs.Callers.{moves_bytes}
 
--- Some world is the kernel's, to which the devices are attached, and of which the memory has the pages' bytes. Each
--- page is of one object alone. So it is also while a thread that was taken stands nowhere.
-pub record HeldOver (k : Calls) (devices : Devices) (m : Memory) : Type 0 where
+-- the rings of the output channels stand at their numbers
+abbrev pub HasRings : Objects → Type 0
+HasRings o = (content : ℕ → ℕ → ℕ) (channel : ℕ) → channel < OUTPUT_CHANNELS
+    → object_at content o (FIRST_OUTPUT_RING + channel) ≡ Some (OutputRing channel)
+
+-- What a thread's instruction finds is a world's: beside what is read before it, the bytes of the input that waits
+-- first, which has a form like the others, and the entries that wait on the pages of rings, which have room for them.
+pub record Finds (k : Runtime) (devices : Devices) (input : List ℕ) (m : Memory) (rest : Rest) (w : World) : Type 0 where
+  pub found : IsOfWorld k.objects k.numbers devices m rest w
+  pub first : slice_index_or rest.inputs 0 [] ≡ input
+  pub inputs : All IsEntry rest.inputs
+  pub entries : EntriesStand rest.content w rest.out
+  pub room : HasRoom w (state_of k.objects rest)
+
+-- Some world is the kernel's, of which an instruction finds all. Each page is of one object alone, and the rings of the
+-- output channels stand at their numbers. So it is also while a thread that was taken stands nowhere.
+pub record HeldOver (k : Runtime) (devices : Devices) (input : List ℕ) (m : Memory) : Type 0 where
   pub held : Held k
-  pub found : IsOfWorld k.objects k.numbers devices m held.rest held.world
+  pub found : Finds k devices input m held.rest held.world
   pub apart : AreApart (state_of k.objects held.rest)
+  pub rings : HasRings k.objects
 
 -- What may run.
 
@@ -54,34 +69,21 @@ plan_of s thread =
     then option_map (λ instr. effect instr (regs_of thread)) (decoded (value_at s (fetched s thread)))
     else None
 
--- What an instruction comes to may be carried out: a page from which it loads is at home, and so is one to which it
--- stores, to which something was stored before. A call moves no bytes.
-abbrev pub MayCarryOut : Objects → Memory → ThreadRecord → Plan → Type 0
-MayCarryOut o m thread (Set rd value pc) = Unit {0}
-MayCarryOut o m thread (Load op rd at) = ShowsHome o m thread.space READ at
-MayCarryOut o m thread (Store op at value) = ShowsStored o m thread.space at
-MayCarryOut o m thread Call = moves_bytes (call_named thread) ≡ false
-MayCarryOut o m thread (Stop cause) = Unit {0}
-
--- A thread's instruction is fetched from a page that is at home, and what it comes to may be carried out.
-pub record MayRun (o : Objects) (m : Memory) (thread : ThreadRecord) : Type 0 where
-  pub home : ShowsHome o m thread.space EXECUTE thread.pc
-  pub carried_out : (rest : Rest) (plan : Plan) → Reads rest.content m → plan_of (state_of o rest) thread ≡ Some plan
-      → MayCarryOut o m thread plan
-
--- A thread's instruction calls neither put nor get.
-abbrev pub MovesNoBytes : Objects → Memory → ThreadRecord → Type 0
-MovesNoBytes o m thread = (rest : Rest) → Reads rest.content m → plan_of (state_of o rest) thread ≡ Some Call
-    → moves_bytes (call_named thread) ≡ false
-
 -- What becomes of it.
 
--- The memory has what becomes of the pages' bytes by an effect: the objects are then the state after its stores.
+-- the pages of rings have the same bytes
+abbrev pub KeepsRingPages : (ℕ → ℕ → ℕ) → (ℕ → ℕ → ℕ) → Type 0
+KeepsRingPages first second = (channel offset : ℕ) → channel < OUTPUT_CHANNELS
+    → second (page_of_channel channel) offset ≡ first (page_of_channel channel) offset
+
+-- The memory has what becomes of the pages' bytes by an effect: the objects are then the state after its stores, and
+-- the pages of rings have the bytes that they had.
 pub record Stored (o : Objects) (rest : Rest) (e : Effect) (m : Memory) : Type 0 where
   pub content : ℕ → ℕ → ℕ
   pub reads : Reads content m
   pub state : state_of o (record rest { content = content })
       ≡ record (state_of o rest) { objects = with_stores (state_of o rest).objects e.stores }
+  pub rings : KeepsRingPages rest.content content
 
 -- A word stands in the runtime frame of a page that passes a test.
 pub record IsOnPage (test : ℕ → Bool) (at : ℕ) : Type 0 where
@@ -105,10 +107,12 @@ pub record StoresPages (test : ℕ → Bool) (old new : Memory) : Type 0 where
   pub counts : new ≡ record old { banks = new.banks; ops = new.ops }
   pub ops : AtMostTwo old new
 
--- The kernel's values, with what doesn't stand in its objects, are a state of a world, to which the devices are
--- attached. The numbers in use are that world's, and the memory has its pages' bytes.
-pub record IsNow (k : Calls) (devices : Devices) (m : Memory) (rest : Rest) (w : World) (s : State) : Type 0 where
+-- The kernel's values, with what doesn't stand in its objects, are a state of a world, whose entries the rings count.
+-- The numbers in use are that world's, the memory has its pages' bytes, and the entries that wait stand on the pages of
+-- their rings.
+pub record IsNow (k : Runtime) (m : Memory) (rest : Rest) (w : World) (s : State) : Type 0 where
   pub state : state_of k.objects rest ≡ s
   pub counted : IsCounted k.numbers (world_of k.objects rest w)
-  pub attached : IsAttached k.objects devices (world_of k.objects rest w)
+  pub rings : (id : ℕ) → CountsEntries (slot_at k.objects id) (world_of k.objects rest w)
   pub content : Reads rest.content m
+  pub entries : EntriesStand rest.content w rest.out

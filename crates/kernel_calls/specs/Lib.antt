@@ -5,3 +5,4 @@ pub mod Ticking
 pub mod Pages
 pub mod Instructions
 pub mod Needed
+pub mod Moves

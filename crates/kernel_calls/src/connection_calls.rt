@@ -4,14 +4,14 @@ ghost use Rattle.plain_state.specs.declared.calls.Call.{Call};
 ghost use Rattle.kernel_calls.specs.Kernel.{Allowed};
 ghost use Rattle.kernel_calls.specs.Does.{DoesCall, Keeps};
 
-use crate::calls::Calls;
 use crate::done::Done;
 use crate::lent::give_back;
+use crate::runtime::Runtime;
 use call_readings::id_named;
 use kobj_table::Slot;
 use sls_base::{ObjId, Thread};
 
-impl Calls {
+impl Runtime {
     /// Calls over a connection: its server is woken where it waits for clients, and else the caller waits for it.
     pub(crate) fn call(&mut self, me: ObjId, thread: &Thread) -> Done
         requires { Allowed self.old me thread.now Call.ConnCall }

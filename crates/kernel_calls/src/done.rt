@@ -9,11 +9,13 @@ use plain_state::{ANSWER, Goes};
 use rv_core::Regs;
 use sls_base::{HALTED, INSTRUCTION_BYTES, Thread, ThreadState};
 
-/// The registers of a thread after its call, what becomes of it, and whether it wishes for a checkpoint.
+/// The registers of a thread after its instruction, what becomes of it, whether it takes the input that waits first, and
+/// whether it wishes for a checkpoint.
 #[derive(Clone, Copy)]
 pub struct Done {
     pub regs: Regs,
     pub goes: Goes,
+    pub takes: bool,
     pub wishes: bool,
 }
 
@@ -34,6 +36,7 @@ impl Done {
                 x,
             },
             goes: Goes::On,
+            takes: false,
             wishes: false,
         }
     }
@@ -45,6 +48,16 @@ impl Done {
         Done {
             goes: Goes::Back,
             ..Done::answers(thread, 0)
+        }
+    }
+
+    /// A call is answered, and takes the input that waits first.
+    pub(crate) fn takes(thread: &Thread, answer: u32) -> Done
+        ensures { Tells result (record (plain.answers thread.now answer) { takes = true }) }
+    {
+        Done {
+            takes: true,
+            ..Done::answers(thread, answer)
         }
     }
 
@@ -68,6 +81,7 @@ impl Done {
                 x: thread.x,
             },
             goes: Goes::Stop(cause),
+            takes: false,
             wishes: false,
         }
     }
@@ -89,6 +103,7 @@ impl Done {
                 x: thread.x,
             },
             goes: Goes::On,
+            takes: false,
             wishes: false,
         }
     }
@@ -103,6 +118,7 @@ impl Done {
         Done {
             regs,
             goes: Goes::On,
+            takes: false,
             wishes: false,
         }
     }
@@ -126,6 +142,7 @@ impl Done {
                 x: thread.x,
             },
             goes,
+            takes: false,
             wishes: false,
         }
     }

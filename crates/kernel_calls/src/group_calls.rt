@@ -6,15 +6,15 @@ ghost use Rattle.plain_state.specs.Calls.{arg};
 ghost use Rattle.plain_state.specs.declared.calls.Call.{Call};
 ghost use Rattle.kernel_calls.specs.Does.{DoesCall, KeepsCall};
 
-use crate::calls::Calls;
 use crate::done::Done;
+use crate::runtime::Runtime;
 use call_readings::{cap_named, id_named};
 use cap_group::Cap;
 use kobj_table::Slot;
 use plain_state::arg;
 use sls_base::{ObjId, Thread};
 
-impl Calls {
+impl Runtime {
     /// Copies a capability into a group.
     pub(crate) fn cap_copy(&mut self, me: ObjId, thread: &Thread) -> Done
         ensures does { DoesCall self.old self.new me thread.now Call.CapCopy result }

@@ -11,13 +11,14 @@ ghost use Rattle.plain_state.specs.Instructions as plain;
 ghost use Rattle.plain_state.specs.Ticks.{stores_to};
 ghost use Rattle.kobj_table.specs.Objects.{Rest, state_of};
 ghost use Rattle.call_readings.specs.Content.{Reads, number_seen};
-ghost use Rattle.call_readings.specs.Kernel.{world_of, IsOfWorld};
+ghost use Rattle.call_readings.specs.Kernel.{world_of};
 ghost use Rattle.kernel_calls.specs.Callers.{IsCaller};
-ghost use Rattle.kernel_calls.specs.Does.{Keeps, Obeys, Tells};
-ghost use Rattle.kernel_calls.specs.Instructions.{HeldOver, MayCarryOut, MayRun, ShowsHome, StoresPages};
+ghost use Rattle.kernel_calls.specs.Does.{Leaves, Obeys, Tells};
+ghost use Rattle.kernel_calls.specs.Instructions.{Finds, ShowsHome, StoresPages};
+ghost use Rattle.kernel_calls.specs.Needed.{MayDo, MayRun};
 
-use crate::calls::Calls;
 use crate::done::{Done, next_pc};
+use crate::runtime::Runtime;
 use crate::store::store;
 use call_readings::{Devices, number_at};
 use kobj_table::Objects;
@@ -59,39 +60,37 @@ fn fetch(objects: &Objects, nvm: &Pmem, thread: &Thread) -> Option<u32>
     )
 }
 
-impl Calls {
+impl Runtime {
     /// Carries out what an instruction of a thread comes to, which may be carried out.
     fn carry_out_plan(
         &mut self,
         devices: &Devices,
+        input: &[u8],
         nvm: &mut Pmem,
         me: ObjId,
         thread: &Thread,
         plan: Plan,
     ) -> Done
-        requires held { HeldOver self.old devices.now nvm.old }
+        requires may { MayDo self.old devices.now input.now nvm.old me thread.now plan }
         requires caller { IsCaller self.old.objects me thread.now }
         requires in_range { IsPlan plan }
-        requires may_carry_out { MayCarryOut self.old.objects nvm.old thread.now plan }
         ensures obeys { (w : World) (rest : Rest)
-            → IsOfWorld self.old.objects self.old.numbers devices.now nvm.old rest w
+            → Finds self.old devices.now input.now nvm.old rest w
             → (after : Rest) × Obeys self.old self.new rest after nvm.new w
             (plain.carried_out (world_of self.old.objects rest w) me thread.now plan) result }
-        ensures takes { (w : World) (rest : Rest)
-            → IsOfWorld self.old.objects self.old.numbers devices.now nvm.old rest w
-            → (plain.carried_out (world_of self.old.objects rest w) me thread.now plan).takes ≡ false }
         ensures words { (w : World) (rest : Rest)
-            → IsOfWorld self.old.objects self.old.numbers devices.now nvm.old rest w
+            → Finds self.old devices.now input.now nvm.old rest w
             → StoresPages (stores_to (state_of self.old.objects rest)
             (plain.carried_out (world_of self.old.objects rest w) me thread.now plan)) nvm.old nvm.new }
-        ensures keeps { Keeps self.old self.new me result }
+        ensures leaves { Leaves self.old self.new me result }
     {
         page_bytes::stores_in_parts();
+        out_gate::waiting_entries_stand();
         match plan {
             Plan::Set { rd, value, pc } => Done::sets(thread, rd, value, pc),
             Plan::Load { op, rd, at } => load(&self.objects, nvm, thread, op, rd, at),
             Plan::Store { op, at, value } => store(&self.objects, nvm, thread, op, at, value),
-            Plan::Call => self.ecall(devices, me, thread),
+            Plan::Call => self.ecall(devices, input, nvm, me, thread),
             Plan::Stop(cause) => Done::stops(thread, cause),
         }
     }
@@ -102,25 +101,22 @@ impl Calls {
     pub(crate) fn obey(
         &mut self,
         devices: &Devices,
+        input: &[u8],
         nvm: &mut Pmem,
         me: ObjId,
         thread: &Thread,
     ) -> Done
-        requires held { HeldOver self.old devices.now nvm.old }
+        requires may { MayRun self.old devices.now input.now nvm.old me thread.now }
         requires caller { IsCaller self.old.objects me thread.now }
-        requires may_run { MayRun self.old.objects nvm.old thread.now }
         ensures obeys { (w : World) (rest : Rest)
-            → IsOfWorld self.old.objects self.old.numbers devices.now nvm.old rest w
+            → Finds self.old devices.now input.now nvm.old rest w
             → (after : Rest) × Obeys self.old self.new rest after nvm.new w
             (plain.instruction (world_of self.old.objects rest w) me thread.now) result }
-        ensures takes { (w : World) (rest : Rest)
-            → IsOfWorld self.old.objects self.old.numbers devices.now nvm.old rest w
-            → (plain.instruction (world_of self.old.objects rest w) me thread.now).takes ≡ false }
         ensures words { (w : World) (rest : Rest)
-            → IsOfWorld self.old.objects self.old.numbers devices.now nvm.old rest w
+            → Finds self.old devices.now input.now nvm.old rest w
             → StoresPages (stores_to (state_of self.old.objects rest)
             (plain.instruction (world_of self.old.objects rest w) me thread.now)) nvm.old nvm.new }
-        ensures keeps { Keeps self.old self.new me result }
+        ensures leaves { Leaves self.old self.new me result }
     {
         let Some(word) = fetch(&self.objects, nvm, thread) else {
             return Done::stops(thread, NO_ACCESS);
@@ -132,6 +128,6 @@ impl Calls {
             pc: thread.pc,
             x: thread.x,
         };
-        self.carry_out_plan(devices, nvm, me, thread, plan(instr, &regs))
+        self.carry_out_plan(devices, input, nvm, me, thread, plan(instr, &regs))
     }
 }

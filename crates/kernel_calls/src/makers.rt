@@ -16,8 +16,8 @@ ghost use Rattle.kernel_calls.specs.Kernel.{Allowed, Held};
 ghost use Rattle.kernel_calls.specs.Callers.{IsCaller};
 ghost use Rattle.kernel_calls.specs.Does.{DoesCall, Keeps, KeepsCall, Makes};
 
-use crate::calls::Calls;
 use crate::done::Done;
+use crate::runtime::Runtime;
 use call_readings::id_named;
 use cap_group::{Cap, Group};
 use ipc_note::{Connection, Notification};
@@ -26,7 +26,7 @@ use mem_space::Space;
 use plain_state::{ANSWER, arg};
 use sls_base::{ALL_RIGHTS, OBJECTS, ObjId, REGISTERS, Thread, ThreadState};
 
-impl Calls {
+impl Runtime {
     /// Makes an object, which is no ring, and to which the caller gets a capability with all rights.
     pub(crate) fn make(&mut self, me: ObjId, thread: &Thread, slot: Slot) -> Done
         requires { (ring : Ring) → slot ≢ Slot.Ring ring }

@@ -9,8 +9,8 @@ ghost use Rattle.call_readings.specs.NumberSets.{uses_page};
 ghost use Rattle.kernel_calls.specs.Does.{DoesCall, KeepsCall};
 ghost use Rattle.kernel_calls.specs.Pages.{free_in, is_among};
 
-use crate::calls::Calls;
 use crate::done::Done;
+use crate::runtime::Runtime;
 use call_readings::NumbersInUse;
 use kobj_table::Slot;
 use mem_space::{MemPage, Memory, PageIndex};
@@ -37,7 +37,7 @@ fn take_memory(numbers: &mut NumbersInUse, count: PageIndex) -> Memory
     memory
 }
 
-impl Calls {
+impl Runtime {
     /// Makes a memory object of fresh pages.
     pub(crate) fn mem_new(&mut self, me: ObjId, thread: &Thread) -> Done
         requires { arg thread.now 0 ≤ MEMORY_PAGES }

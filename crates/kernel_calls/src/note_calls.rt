@@ -9,14 +9,14 @@ ghost use Rattle.kobj_table.specs.Objects.{slot_at};
 ghost use Rattle.plain_state.specs.declared.calls.Call.{Call};
 ghost use Rattle.kernel_calls.specs.Does.{DoesCall, KeepsCall};
 
-use crate::calls::Calls;
 use crate::done::Done;
 use crate::lent::give_back;
+use crate::runtime::Runtime;
 use call_readings::id_named;
 use kobj_table::Slot;
 use sls_base::{ObjId, Thread};
 
-impl Calls {
+impl Runtime {
     /// Makes the first waiter of a notification Ready, or adds one to its count.
     pub(crate) fn signal(&mut self, me: ObjId, thread: &Thread) -> Done
         requires { is_scheduler (slot_at self.old.objects SCHEDULER) ≡ true }

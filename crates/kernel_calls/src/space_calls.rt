@@ -4,14 +4,14 @@ ghost use Rattle.plain_state.specs.declared.calls.Call.{Call};
 ghost use Rattle.kernel_calls.specs.Kernel.{Allowed};
 ghost use Rattle.kernel_calls.specs.Does.{DoesCall, Keeps};
 
-use crate::calls::Calls;
 use crate::done::Done;
+use crate::runtime::Runtime;
 use call_readings::id_named;
 use mem_space::{PageIndex, Region};
 use plain_state::arg;
 use sls_base::{ObjId, PAGE_BYTES, Thread};
 
-impl Calls {
+impl Runtime {
     /// Maps pages of a memory object at addresses of a space.
     pub(crate) fn map(&mut self, me: ObjId, thread: &Thread) -> Done
         requires { Allowed self.old me thread.now Call.Map }

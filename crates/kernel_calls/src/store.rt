@@ -9,7 +9,7 @@ ghost use Rattle.plain_state.specs.Ticks.{stores_to};
 ghost use Rattle.kobj_table.specs.Objects.{Rest, state_of};
 ghost use Rattle.call_readings.specs.Content.{Reads};
 ghost use Rattle.kernel_calls.specs.Does.{Tells};
-ghost use Rattle.kernel_calls.specs.Instructions.{ShowsStored, Stored, StoresPages};
+ghost use Rattle.kernel_calls.specs.Instructions.{HasRings, ShowsStored, Stored, StoresPages};
 
 use crate::done::Done;
 use call_readings::page_at;
@@ -32,6 +32,7 @@ pub(crate) fn store(
     requires op { IsOneOf op store_ops }
     requires aligned { at % size_of op ≡ 0 }
     requires page { ShowsStored objects.now nvm.old thread.now.space at }
+    requires rings { HasRings objects.now }
     requires apart { (rest : Rest) → AreApart (state_of objects.now rest) }
     ensures stored { (rest : Rest) → Reads rest.content nvm.old → Stored objects.now rest
         (plain.store_effect (state_of objects.now rest) thread.now op at value) nvm.new }
@@ -42,6 +43,7 @@ pub(crate) fn store(
 {
     plain_laws::calls::bytes_on_one_page();
     page_bytes::stores_at_addresses();
+    page_bytes::pages_of_rings_are_apart();
     let Some(page) = page_at(objects, thread.space, WRITE, u64::from(at)) else {
         return Done::stops(thread, NO_ACCESS);
     };

@@ -1,7 +1,7 @@
 //! Calls on a small table: a group of which ten slots are taken, and ten objects and five pages in use.
 
-use crate::calls::Calls;
 use crate::done::Done;
+use crate::runtime::Runtime;
 use call_readings::{Devices, NumbersInUse, refusal_of};
 use cap_group::{Cap, Group};
 use ipc_note::RUN_QUEUE;
@@ -33,7 +33,7 @@ fn group() -> Group {
 }
 
 /// The kernel, with numbers 0 to 9 of objects and 0 to 4 of pages in use.
-fn kernel() -> Calls {
+fn kernel() -> Runtime {
     let mut objects = Objects::new();
     let cores = Cores {
         cores: 1,
@@ -48,7 +48,7 @@ fn kernel() -> Calls {
     for page in 0..5 {
         numbers.take_page(page);
     }
-    Calls::new(objects, numbers)
+    Runtime::new(objects, numbers)
 }
 
 /// A thread of the group that calls with these arguments.
@@ -67,7 +67,7 @@ fn caller(arguments: [u32; 3]) -> Thread {
 }
 
 /// Carries out a call that isn't refused.
-fn carry_out(calls: &mut Calls, me: ObjId, thread: &Thread, call: Call) -> Option<Done> {
+fn carry_out(calls: &mut Runtime, me: ObjId, thread: &Thread, call: Call) -> Option<Done> {
     match call {
         Call::GroupNew => Some(calls.group_new(me, thread)),
         Call::NoteNew => Some(calls.note_new(me, thread)),
@@ -88,7 +88,7 @@ fn carry_out(calls: &mut Calls, me: ObjId, thread: &Thread, call: Call) -> Optio
 }
 
 /// What a call of a thread answers.
-fn answer(calls: &mut Calls, me: ObjId, call: Call, arguments: [u32; 3]) -> Option<u32> {
+fn answer(calls: &mut Runtime, me: ObjId, call: Call, arguments: [u32; 3]) -> Option<u32> {
     let thread = caller(arguments);
     match refusal_of(
         &calls.objects,
@@ -104,14 +104,14 @@ fn answer(calls: &mut Calls, me: ObjId, call: Call, arguments: [u32; 3]) -> Opti
 }
 
 /// Puts a thread down on core 0, where it stands in no list.
-fn put_down(calls: &mut Calls, me: ObjId, left: u8, thread: &Thread, done: &Done) {
+fn put_down(calls: &mut Runtime, me: ObjId, left: u8, thread: &Thread, done: &Done) {
     if (me as usize) < OBJECTS && me != SCHEDULER && !calls.objects.links.is_linked(me as usize) {
         calls.settle(0, me, left, thread, done);
     }
 }
 
 /// A thread waits on a new notification, and the caller signals it with so much left of its slice.
-fn signal_with(calls: &mut Calls, left: u8) {
+fn signal_with(calls: &mut Runtime, left: u8) {
     answer(calls, CALLER, Call::NoteNew, [0; 3]);
     calls.objects.set_thread(20, caller([10, 0, 0]));
     answer(calls, 20, Call::Wait, [10, 0, 0]);
@@ -187,9 +187,9 @@ fn a_group_has_room_for_what_it_has_slots_for(rt: HostRuntime) {
         answer(&mut calls, CALLER, Call::GroupNew, [0; 3]),
         Some(Refusal::NoSlot.number())
     );
-    assert_eq!(rt; calls.made(), Some(31));
-    assert_eq!(rt; calls.used_object(31), true);
-    assert_eq!(rt; calls.used_object(32), false);
+    assert_eq!(rt; calls.made, Some(31));
+    assert_eq!(rt; calls.numbers.uses_object(31), true);
+    assert_eq!(rt; calls.numbers.uses_object(32), false);
 }
 
 #[test]

@@ -5,7 +5,7 @@ ghost use Rattle.link_lists.specs.Lists.{list_at, IsFree};
 ghost use Rattle.ipc_note.specs.declared.lists.TheConstants.{RUN_QUEUE};
 ghost use Rattle.plain_state.specs.Worlds.{World};
 ghost use Rattle.plain_state.specs.Instructions.{instruction};
-ghost use Rattle.call_readings.specs.Kernel.{world_of, IsOfWorld};
+ghost use Rattle.call_readings.specs.Kernel.{world_of};
 ghost use Rattle.sls_base.specs.declared.thread.Thread.{Thread as ThreadRecord};
 ghost use Rattle.plain_state.specs.declared.label.Reply.TheVariants as ReplyNames;
 ghost use Rattle.plain_state.specs.States.{thread_at};
@@ -15,17 +15,20 @@ ghost use Rattle.kobj_table.specs.Slots.{cores_of, has_list, is_scheduler, occup
 ghost use Rattle.kobj_table.specs.Objects.{Rest, slot_at, state_of, HasNoStrays};
 ghost use Rattle.kernel_calls.specs.Kernel.{Held, Holds, IsHeld};
 ghost use Rattle.kernel_calls.specs.Callers.{IsCaller};
-ghost use Rattle.kernel_calls.specs.Instructions.{HeldOver, IsNow, MayRun, MovesNoBytes, StoresPages};
-ghost use Rattle.kernel_calls.specs.Needed.{IsPrepared};
+ghost use Rattle.kernel_calls.specs.Instructions.{Finds, IsNow, StoresPages};
+ghost use Rattle.kernel_calls.specs.Needed.{IsPrepared, MayRun};
 ghost use Rattle.kernel_calls.specs.Ticking.{Takes, Settles};
 
 use crate::calls::Calls;
 use crate::done::Done;
 use crate::need::pages_are_there;
+use crate::runtime::Runtime;
 use call_readings::Devices;
 use plain_state::{Goes, Reply};
 use pmem_model::Pmem;
-use sls_base::{CORE_SLICE, CORES, CoreNo, OBJECTS, ObjId, SCHEDULER, Thread, ThreadState};
+use sls_base::{
+    CORE_SLICE, CORES, CoreNo, OBJECTS, OUTPUT_CHANNELS, ObjId, SCHEDULER, Thread, ThreadState,
+};
 
 /// What becomes of a thread with so much left of its slice.
 fn at_slice_end(left: u8, goes: Goes) -> Goes
@@ -70,7 +73,7 @@ fn reply_of(wishes: bool) -> Reply
     }
 }
 
-impl Calls {
+impl Runtime {
     /// Takes the thread that a core runs next, with what is left of its slice: its own, or the front of the run queue
     /// with a whole slice. It is None exactly where the core has none and the queue is empty. A tick begins so, and has
     /// made no object yet.
@@ -97,75 +100,45 @@ impl Calls {
         }
     }
 
-    /// A tick of a core: it takes a thread where it has none, the thread does one instruction, and its slice falls by
-    /// one. A core that has no thread to run is idle. The reply says so, and whether the thread wishes for a
-    /// checkpoint.
-    pub fn tick(&mut self, devices: &Devices, nvm: &mut Pmem, core: CoreNo) -> Reply
-        requires below { core < CORES }
-        requires core { core < length (cores_of (slot_at self.old.objects SCHEDULER)) }
-        requires held { IsHeld self.old devices.now nvm.old }
-        requires prepared { (w : World) (rest : Rest) → Holds self.old devices.now nvm.old rest w
-            → IsPrepared self.old.objects nvm.old w core }
-        requires no_bytes { (rest : Rest) (c : Chosen) → plain.chosen (state_of self.old.objects rest) core ≡ Some c
-            → MovesNoBytes self.old.objects nvm.old (thread_at (state_of self.old.objects rest) c.occupant.thread) }
-        ensures holds { (w : World) (rest : Rest) → Holds self.old devices.now nvm.old rest w
-            → (after : Rest) × Holds self.new devices.now nvm.new after (plain.tick w core) }
-        ensures reply { (w : World) (rest : Rest) → Holds self.old devices.now nvm.old rest w
-            → result ≡ plain.tick_reply w core }
-        ensures words { (w : World) (rest : Rest) → Holds self.old devices.now nvm.old rest w
-            → StoresPages (plain.must_store w core) nvm.old nvm.new }
-    {
-        // Their contracts say that neither objects nor what an instruction does depend on the run queue, and that a
-        // tick keeps a world sound; and that an instruction whose tick is prepared has its pages.
-        kobj_table::lists_alone();
-        plain_laws::ticks::effect_depends_on_little();
-        plain_laws::whole::worlds_are_sound();
-        pages_are_there();
-        let Some(next) = self.take_next(core) else {
-            return Reply::Idle;
-        };
-        let thread = self.objects.thread_or_zeros(next.0);
-        let wishes = self.run_instruction(devices, nvm, core, next, &thread);
-        reply_of(wishes)
-    }
-
-    /// Lets a thread that a core has taken do its instruction, and puts it down. It says whether the thread wishes for
-    /// a checkpoint.
+    /// Lets a thread that a core has taken do its instruction, and puts it down. It says what became of the thread.
     pub(crate) fn run_instruction(
         &mut self,
         devices: &Devices,
+        input: &[u8],
         nvm: &mut Pmem,
         core: CoreNo,
         next: (ObjId, u8),
         thread: &Thread,
-    ) -> bool
+    ) -> Done
         requires core { core < CORES }
-        requires held { HeldOver self.old devices.now nvm.old }
+        requires may { MayRun self.old devices.now input.now nvm.old next.0 thread.now }
         requires caller { IsCaller self.old.objects next.0 thread.now }
-        requires may_run { MayRun self.old.objects nvm.old thread.now }
         ensures is_now { (w : World) (rest : Rest)
-            → IsOfWorld self.old.objects self.old.numbers devices.now nvm.old rest w
-            → (after : Rest) × IsNow self.new devices.now nvm.new after w
+            → Finds self.old devices.now input.now nvm.old rest w
+            → (after : Rest) × IsNow self.new nvm.new after w
             (plain.state_of_effect (state_of self.old.objects rest) core
             (record {
               occupant = record { thread = next.0; slice = next.1 };
               queue = list_at self.old.objects.links RUN_QUEUE;
             }) (instruction (world_of self.old.objects rest w) next.0 thread.now)) }
         ensures wishes { (w : World) (rest : Rest)
-            → IsOfWorld self.old.objects self.old.numbers devices.now nvm.old rest w
-            → result ≡ (instruction (world_of self.old.objects rest w) next.0 thread.now).wishes }
+            → Finds self.old devices.now input.now nvm.old rest w
+            → result.wishes ≡ (instruction (world_of self.old.objects rest w) next.0 thread.now).wishes }
+        ensures takes { (w : World) (rest : Rest)
+            → Finds self.old devices.now input.now nvm.old rest w
+            → result.takes ≡ (instruction (world_of self.old.objects rest w) next.0 thread.now).takes }
         ensures words { (w : World) (rest : Rest)
-            → IsOfWorld self.old.objects self.old.numbers devices.now nvm.old rest w
+            → Finds self.old devices.now input.now nvm.old rest w
             → StoresPages (plain.stores_to (state_of self.old.objects rest)
             (instruction (world_of self.old.objects rest w) next.0 thread.now)) nvm.old nvm.new }
         ensures scheduler { is_scheduler (slot_at self.new.objects SCHEDULER) ≡ true }
         ensures strays { HasNoStrays self.new.objects }
     {
         let (id, slice) = next;
-        let done = self.obey(devices, nvm, id, thread);
+        let done = self.obey(devices, input, nvm, id, thread);
         let left = slice.saturating_sub(1);
         self.settle(core, id, left, thread, &done);
-        done.wishes
+        done
     }
 
     /// Puts a thread down after its instruction, with so much left of its slice: on its core, at the queue's back, or
@@ -196,5 +169,42 @@ impl Calls {
         if let Goes::Back = goes {
             self.objects.enqueue(id);
         }
+    }
+}
+
+impl Calls {
+    /// A tick of a core: it takes a thread where it has none, the thread does one instruction, and its slice falls by
+    /// one. A core that has no thread to run is idle. The reply says so, and whether the thread wishes for a
+    /// checkpoint. The devices have accepted so many entries of each channel.
+    pub fn tick(&mut self, nvm: &mut Pmem, core: CoreNo, accepted: &[u64; OUTPUT_CHANNELS]) -> Reply
+        requires below { core < CORES }
+        requires core { core < length (cores_of (slot_at self.old.runtime.objects SCHEDULER)) }
+        requires held { IsHeld self.old accepted.now nvm.old }
+        requires prepared { (w : World) (rest : Rest) → Holds self.old accepted.now nvm.old rest w
+            → IsPrepared self.old.runtime.objects nvm.old w core }
+        ensures holds { (w : World) (rest : Rest) → Holds self.old accepted.now nvm.old rest w
+            → (after : Rest) × Holds self.new accepted.now nvm.new after (plain.tick w core) }
+        ensures reply { (w : World) (rest : Rest) → Holds self.old accepted.now nvm.old rest w
+            → result ≡ plain.tick_reply w core }
+        ensures words { (w : World) (rest : Rest) → Holds self.old accepted.now nvm.old rest w
+            → StoresPages (plain.must_store w core) nvm.old nvm.new }
+    {
+        // Their contracts say that neither objects nor what an instruction does depend on the run queue, and that a
+        // tick keeps a world sound; and that an instruction whose tick is prepared has its pages.
+        kobj_table::lists_alone();
+        plain_laws::ticks::effect_depends_on_little();
+        plain_laws::whole::worlds_are_sound();
+        pages_are_there();
+        let Some(next) = self.runtime.take_next(core) else {
+            return Reply::Idle;
+        };
+        let thread = self.runtime.objects.thread_or_zeros(next.0);
+        let devices = self.devices(accepted);
+        let input = self.inputs.first();
+        let done = self
+            .runtime
+            .run_instruction(&devices, input, nvm, core, next, &thread);
+        self.inputs.take_first_if(done.takes);
+        reply_of(done.wishes)
     }
 }

@@ -9,7 +9,7 @@ use Rattle.kobj_table.specs.Slots.{page_of}
 use Rattle.kobj_table.specs.Objects.{Rest, object_at, state_of}
 use Rattle.call_readings.specs.Content.{Reads}
 use Rattle.page_bytes.specs.Bytes.{with_bytes, SeesPage}
-use Rattle.kernel_calls.proofs.Storing.{sizes, some_found, none_found, number_found, stored_if, kept_if, goes_if, stops_if}
+use Rattle.kernel_calls.proofs.Storing.{sizes, some_found, none_found, number_found, stored_if, kept_if, goes_if, stops_if, rings_kept}
 use Rattle.kernel_calls.proofs.StoredPages.{none_stored, stored_on, burst_stored}
 use Rattle.kernel_calls.proofs.store.store.Goals as goal
 
@@ -66,6 +66,7 @@ returns-clause-stored c rest reads =
     let after = subst (λ (n : ℕ). Reads (with_bytes rest.content page.page (at % PAGE_BYTES) (bytes_of_number n c.args.value)) c.store_number.new.nvm) c.access_size.ensures.size (c.store_number.ensures.content rest.content reads) in
     stored_if o rest c.store_number.new.nvm _ _ c.args.thread.now (is_covered regions WRITE at (size_of c.args.op)) covered _ after
     (c.stores_at_addresses.ensures.number o rest c.args.thread.now.space WRITE at (size_of c.args.op) c.args.value page (c.requires.apart rest) sees (c.requires.page.stored page sees) size.1)
+    (rings_kept c.pages_of_rings_are_apart.ensures o rest c.args.thread.now.space WRITE at (at % PAGE_BYTES) page _ (c.requires.apart rest) c.requires.rings sees (c.requires.page.stored page sees))
 
 pub returns-clause-tells : goal.returns-clause-tells
 unfolding state_of

@@ -6,6 +6,8 @@ use Rattle.plain_state.specs.States.{State}
 use Rattle.plain_state.specs.Worlds.{World}
 use Rattle.plain_state.specs.Ticks.{touches, must_store}
 use Rattle.call_readings.specs.Content.{is_page_home}
+use Rattle.call_readings.specs.declared.devices.Devices.{Devices}
+use Rattle.call_readings.specs.Kernel.{IsOfWorld}
 use Rattle.call_readings.specs.Need.{page_fetched, IsAtHome}
 use Rattle.kernel_calls.specs.Needed.{IsFreshPage}
 use Rattle.kernel_calls.proofs.Needed.{same_world, of_world, home_or_away, told_home, all_told, each_told, stores_touch}
@@ -15,18 +17,20 @@ use Rattle.kernel_calls.proofs.calls.Calls.need.Goals as goal
 pub returns-clause-touched : goal.returns-clause-touched
 returns-clause-touched c w rest page holds home =
     let k = c.args.self.now in
-    let devices = c.args.devices.now in
+    let accepted = c.args.accepted.now in
     let m = c.args.nvm.now in
-    c.need_of_core.ensures.touched w rest page (of_world k devices m rest w holds) (subst (λ (s : State). IsAtHome m (page_fetched s c.args.core)) holds.now home)
-    ∙ sym (ap (λ (v : World). touches v c.args.core page) (same_world k devices m rest w holds))
+    let found = subst (λ (d : Devices). IsOfWorld k.runtime.objects k.runtime.numbers d m rest w) (sym c.devices-devices.ensures) (of_world k accepted m rest w holds) in
+    c.need_of_core.ensures.touched w rest page found (subst (λ (s : State). IsAtHome m (page_fetched s c.args.core)) holds.now home)
+    ∙ sym (ap (λ (v : World). touches v c.args.core page) (same_world k accepted m rest w holds))
 
 pub returns-clause-stored : goal.returns-clause-stored
 returns-clause-stored c w rest page holds home =
     let k = c.args.self.now in
-    let devices = c.args.devices.now in
+    let accepted = c.args.accepted.now in
     let m = c.args.nvm.now in
-    c.need_of_core.ensures.stored w rest page (of_world k devices m rest w holds) (subst (λ (s : State). IsAtHome m (page_fetched s c.args.core)) holds.now home)
-    ∙ sym (ap (λ (v : World). must_store v c.args.core page) (same_world k devices m rest w holds))
+    let found = subst (λ (d : Devices). IsOfWorld k.runtime.objects k.runtime.numbers d m rest w) (sym c.devices-devices.ensures) (of_world k accepted m rest w holds) in
+    c.need_of_core.ensures.stored w rest page found (subst (λ (s : State). IsAtHome m (page_fetched s c.args.core)) holds.now home)
+    ∙ sym (ap (λ (v : World). must_store v c.args.core page) (same_world k accepted m rest w holds))
 
 pub returns-clause-away : goal.returns-clause-away
 returns-clause-away c w rest from holds is away =
@@ -57,5 +61,5 @@ returns-clause-prepared c w rest holds home stored =
     λ from is below. told_home c.args.nvm.now from c.need_of_core.result.touched.items home (λ away. (returns-clause-away c w rest from holds is away).0) in
     record {
       home = λ page touched. all_told (λ (p : ℕ). is_page_home c.args.nvm.now p ≡ true) page c.need_of_core.result.touched.items home (returns-clause-touched c w rest page holds at_home ∙ touched);
-      stored = λ page must. all_told (λ (p : ℕ). IsFreshPage c.args.self.now.objects p → ⊥) page c.need_of_core.result.stored.items stored (returns-clause-stored c w rest page holds at_home ∙ must);
+      stored = λ page must. all_told (λ (p : ℕ). IsFreshPage c.args.self.now.runtime.objects p → ⊥) page c.need_of_core.result.stored.items stored (returns-clause-stored c w rest page holds at_home ∙ must);
     }
