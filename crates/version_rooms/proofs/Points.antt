@@ -1,5 +1,5 @@
 -- What a cut may leave of fixed words, of pages of which some are left out, and of numbers told another way.
-use Rattle.std.specs.Prelude.{◌≡◌, ◌⊎◌, ℕ, Option, Some, None}
+use Rattle.std.specs.Prelude.{◌≡◌, ℕ, Option}
 use Rattle.std.proofs.Common.{◌∙◌, sym, subst, inl, inr}
 use Rattle.sls_base.specs.declared.fixed.TheConstants.{LEADER}
 use Rattle.pmem_model.specs.Words.{Word}

@@ -3,7 +3,7 @@ use Rattle.std.specs.Prelude.{◌≡◌, ◌≢◌, ◌⊎◌, ℕ, ◌+◌, ◌
 use Rattle.sls_base.specs.declared.fixed.TheConstants.{LEADER}
 use Rattle.sls_base.specs.declared.limits.TheConstants.{CORES, LAST_VERSION, PAGES, VERSION_AT}
 use Rattle.pmem_model.specs.Words.{Word}
-use Rattle.pmem_model.specs.Events.{WordIs, Clean, Left}
+use Rattle.pmem_model.specs.Events.{WordIs, Clean}
 use Rattle.pmem_layout.specs.declared.format.TheConstants.{FORMAT_WORD}
 use Rattle.pmem_layout.specs.declared.places.TheConstants.{FORMAT_AT}
 use Rattle.pmem_layout.specs.Owners.{Fixed, owner}
@@ -13,7 +13,7 @@ use Rattle.version_commit.specs.declared.step.Step.TheVariants as steps
 use Rattle.version_commit.specs.Shows.{VersionShows}
 use Rattle.alloc_journal.specs.declared.journal.Stage.TheVariants.{Logged, Rest}
 use Rattle.alloc_journal.specs.Sets.{changes, has}
-use Rattle.alloc_journal.specs.Work.{InUse, is_logging, is_redo, log_left}
+use Rattle.alloc_journal.specs.Work.{InUse, is_logging, is_redo, log_left, once_committed as with_log}
 use Rattle.alloc_journal.specs.Shows.{NumbersShow}
 use Rattle.object_root.specs.declared.stage.Phase.TheVariants as objects
 use Rattle.object_root.specs.Room.{AllIdle}
@@ -104,6 +104,11 @@ pub record Logs (old new : InUse) : Type 0 where
   pub logged : old.work.stage ≢ Rest → new.work.logged ≡ old.work.logged
   pub first : old.work.stage ≡ Rest → log_left new.work ≡ changes old.work.committed old.running + 4
   pub left : is_logging old.work.stage ≡ true → old.work.stage ≢ Logged → log_left old.work ≡ log_left new.work + 1
+
+-- A commit of the numbers: those that were logged are the committed ones, and their log is to be applied.
+pub record TakesLogged (old new : InUse) : Type 0 where
+  pub work : new.work ≡ with_log old.work
+  pub running : new.running ≡ old.running
 
 -- no content of a page is saved, and none runs
 abbrev pub without_page : Contents → ℕ → Contents

@@ -19,7 +19,7 @@ ghost use Rattle.page_store.specs.Shows.{PagesShow};
 ghost use Rattle.page_store.specs.Known.{Phase, Open, Fenced};
 ghost use Rattle.page_store.specs.Stages.{stage_of};
 ghost use Rattle.page_store.specs.Stores.{after_stores, IsStored, StoresInPages};
-ghost use Rattle.durable_state.specs.Parts.{Parts};
+ghost use Rattle.durable_state.specs.Parts.{Parts, PartsStand};
 ghost use Rattle.version_rooms.specs.declared.rooms.Rooms.{Rooms};
 ghost use Rattle.version_rooms.specs.Rooms.{Contents, IsAtRest, IsReady, RoomsKeep, RoomsShow, MayCommit, LeavesOne};
 
@@ -50,6 +50,19 @@ pub fn commit_point()
     object_root::laws::room();
     page_store::laws::page_versions();
     pmem_layout::laws::owners();
+    pmem_layout::laws::owners_take_part();
+}
+
+/// While no commit is under way, whatever a cut leaves is the committed version, as it is saved.
+pub fn at_rest()
+    ensures { (r : Rooms) (f : ℕ → Word) (left : ℕ → ℕ) (v : ℕ) (c : Contents) (phase : Phase)
+        → ((i : ℕ) → Left (f i) (left i)) → IsAtRest r → RoomsShow r f v c phase
+        → (left VERSION_AT ≡ v) × PartsStand left v c.saved }
+{
+    version_commit::laws::version_word();
+    alloc_journal::laws::stands();
+    object_root::laws::room();
+    page_store::laws::page_versions();
     pmem_layout::laws::owners_take_part();
 }
 

@@ -9,25 +9,26 @@ ghost use Rattle.pmem_model.specs.Events.{Clean, IsBurst, IsCalm, IsFenced, Word
 ghost use Rattle.pmem_model.specs.Memory.{word_at, AllHome, SameHomes, count_up};
 ghost use Rattle.pmem_layout.specs.Places.{frame_at, runtime_frame};
 ghost use Rattle.alloc_journal.specs.declared.journal.Stage.TheVariants as logs;
-ghost use Rattle.alloc_journal.specs.Work.{is_redo, redo_left};
+ghost use Rattle.alloc_journal.specs.Sets.{changes};
+ghost use Rattle.alloc_journal.specs.Work.{is_logging, is_redo, redo_left};
 ghost use Rattle.object_root.specs.Room.{KeepsOthers, Passes, stage_at};
 ghost use Rattle.object_root.specs.Shows.{IsRecordOf};
 ghost use Rattle.object_root.specs.Steps.{Writes, StoresTag, fenced};
 ghost use Rattle.page_store.specs.declared.stage.PageStage.TheVariants as PageStage;
 ghost use Rattle.page_store.specs.declared.stage.PageState.TheVariants as state;
-ghost use Rattle.page_store.specs.Stages.{stage_of, state_of, stored, flushed, IsSettled};
+ghost use Rattle.page_store.specs.Stages.{stage_of, state_of, after, stored, flushed, IsSettled};
 ghost use Rattle.page_store.specs.Known.{Phase, Open, Fenced};
 ghost use Rattle.page_store.specs.Shows.{after_store};
 ghost use Rattle.cow_fault.specs.Faults.{MayFault, faulted};
 ghost use Rattle.version_commit.specs.declared.step.Step.TheVariants as steps;
 ghost use Rattle.version_commit.specs.OnWay.{next};
 ghost use Rattle.durable_state.specs.Parts.{Parts};
-ghost use Rattle.version_rooms.specs.Rooms.{Contents, AreCommitted, IsAtRest, IsReady, Keeps, Logs, MayCommit, RoomsKeep, RoomsShow, Settles, once_committed, without_page};
+ghost use Rattle.version_rooms.specs.Rooms.{Contents, AreCommitted, IsAtRest, IsReady, Keeps, Logs, MayCommit, RoomsKeep, RoomsShow, Settles, TakesLogged, once_committed, without_page};
 
 use crate::laws::{burst_on_page, fenced_rooms, rooms_are_apart, settled_rooms, version_apart};
 use alloc_journal::Numbers;
-use object_root::Roots;
-use page_store::PageStore;
+use object_root::{Roots, Stage as RecordStage};
+use page_store::{PageStage, PageStore};
 use pmem_layout::SLOT_WORDS;
 use pmem_model::Pmem;
 use sls_base::{CoreNo, LAST_VERSION, LEADER, ObjId, PageNo, Version};
@@ -189,6 +190,13 @@ impl Rooms {
         requires version { self.old.numbers.work.version < LAST_VERSION }
         ensures last { IsTrue result ↔ (self.new.numbers.work.stage ≡ logs.Logged) }
         ensures numbers { Logs self.old.numbers self.new.numbers }
+        ensures logging { is_logging self.old.numbers.work.stage ≡ true
+            → is_logging self.new.numbers.work.stage ≡ true }
+        ensures committed { is_redo self.old.numbers.work.stage ≡ false
+            → self.new.numbers.work.committed ≡ self.old.numbers.work.committed }
+        // Once the log is written, it has an entry for each number that changes.
+        ensures entries { IsTrue result → self.new.numbers.work.entries
+            ≡ changes self.new.numbers.work.committed self.new.numbers.work.logged }
         ensures rest { self.new ≡ record self.old { numbers = self.new.numbers } }
         ensures one { (nvm.new.ops ≡ count_up nvm.old.ops) ⊎ (nvm.new.ops ≡ nvm.old.ops) }
         ensures homes { SameHomes nvm.old nvm.new }
@@ -204,6 +212,7 @@ impl Rooms {
         requires rest { IsAtRest self.old }
         requires log { is_redo self.old.numbers.work.stage ≡ true }
         ensures last { IsTrue result ↔ (is_redo self.new.numbers.work.stage ≡ false) }
+        ensures done { IsTrue result → self.new.numbers.work.stage ≡ logs.Rest }
         ensures left { redo_left self.old.numbers.work ≡ redo_left self.new.numbers.work + 1 }
         ensures version { self.new.numbers.work.version ≡ self.old.numbers.work.version }
         ensures running { self.new.numbers.running ≡ self.old.numbers.running }
@@ -233,6 +242,10 @@ impl Rooms {
         ensures last { (v : ℕ) (c : Contents) (next : Parts) → IsReady self.old v c next
             → RoomsShow self.old (word_at nvm.old) v c Fenced
             → IsTrue result ↔ (self.old.committer.version ≡ steps.Fence) }
+        ensures numbers { IsTrue result → TakesLogged self.old.numbers self.new.numbers }
+        ensures stages { (v : ℕ) (c : Contents) (next : Parts) → IsReady self.old v c next
+            → RoomsShow self.old (word_at nvm.old) v c Fenced → IsTrue result
+            → (page : ℕ) → page < PAGES → stage_of self.new.pages page ≡ after (stage_of self.old.pages page) }
     {
         version_apart();
         let version = self.version().saturating_add(1);
@@ -256,6 +269,29 @@ impl Rooms {
         self.numbers.version()
     }
 
+    /// Whether the log of the next version is durable.
+    pub fn is_logged(&self) -> bool
+        ensures { IsTrue result ↔ (self.now.numbers.work.stage ≡ logs.Logged) }
+    {
+        self.numbers.is_logged()
+    }
+
+    /// How far an object's new record has come.
+    pub fn record_stage(&self, id: ObjId) -> RecordStage
+        requires { id < OBJECTS }
+        ensures { result ≡ stage_at self.now.roots id }
+    {
+        self.roots.stage(id)
+    }
+
+    /// How far a page came since the last commit.
+    pub fn page_stage(&self, page: PageNo) -> PageStage
+        requires { page < PAGES }
+        ensures { result ≡ stage_of self.now.pages page }
+    {
+        self.pages.stage(page)
+    }
+
     /// After an event that stored nothing, as a write-back: whether it committed the next version. If it did, the rooms
     /// are at work on the version after.
     pub fn settle(&mut self, nvm: &Pmem) -> bool
@@ -266,6 +302,11 @@ impl Rooms {
         ensures committed { (f : ℕ → Word) (v : ℕ) (c : Contents) (next : Parts) (phase : Phase)
             → IsCalm f (word_at nvm.now) → MayCommit self.old v c next phase → RoomsShow self.old f v c phase
             → IsTrue result ↔ ((word_at nvm.now VERSION_AT).durable ≢ v) }
+        ensures numbers { IsTrue result → TakesLogged self.old.numbers self.new.numbers }
+        ensures stages { (f : ℕ → Word) (v : ℕ) (c : Contents) (next : Parts) (phase : Phase)
+            → IsCalm f (word_at nvm.now) → MayCommit self.old v c next phase → RoomsShow self.old f v c phase
+            → IsTrue result
+            → (page : ℕ) → page < PAGES → stage_of self.new.pages page ≡ after (stage_of self.old.pages page) }
     {
         settled_rooms();
         if version_commit::version(nvm) == self.version() {
@@ -286,6 +327,10 @@ impl Rooms {
         ensures shows { (f : ℕ → Word) (v : ℕ) (c : Contents) (next : Parts) → IsReady self.old v c next
             → RoomsKeep self.old f v c Fenced → WordIs LEADER Clean (f VERSION_AT) (v + 1)
             → (after : ℕ → Option Obj) → RoomsShow self.new f (v + 1) (once_committed c next after) Open }
+        ensures numbers { TakesLogged self.old.numbers self.new.numbers }
+        ensures stages { (f : ℕ → Word) (v : ℕ) (c : Contents) (next : Parts) → IsReady self.old v c next
+            → RoomsKeep self.old f v c Fenced
+            → (page : ℕ) → page < PAGES → stage_of self.new.pages page ≡ after (stage_of self.old.pages page) }
     {
         alloc_journal::laws::commits();
         page_store::laws::saved_pages_may_be_fewer();

@@ -5,7 +5,7 @@ use Rattle.object_root.specs.Format.{ObjectsStand}
 use Rattle.page_store.specs.Known.{Fenced}
 use Rattle.page_store.specs.Shows.{PagesShow}
 use Rattle.durable_state.specs.Parts.{FixedStand, PartsStand}
-use Rattle.version_rooms.specs.Rooms.{IsReady, LeavesOne, Same, Next, reads_at}
+use Rattle.version_rooms.specs.Rooms.{IsReady, Same, Next, reads_at}
 use Rattle.version_commit.specs.declared.step.Step.{Step}
 use Rattle.version_rooms.proofs.Parted.{reads_one}
 use Rattle.version_rooms.proofs.Points.{fixed_stand, pages_kept}

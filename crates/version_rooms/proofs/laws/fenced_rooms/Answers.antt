@@ -1,4 +1,3 @@
-use Rattle.pmem_layout.specs.Owners as owners
 use Rattle.pmem_layout.specs.Owners.{Owner}
 use Rattle.pmem_layout.specs.Rooms.{CalmIn}
 use Rattle.version_rooms.proofs.Parted.{at_rest, either, fixed_kept, from_rest}

@@ -31,3 +31,10 @@ returns-clause-shows c = λ f v cont next ready keep clean after.
             (subst (λ (n : ℕ). PagesShow c.committed-2.new.self f n cont.pages cont.pages Open) at pages);
       };
     }
+
+pub returns-clause-stages : goal.returns-clause-stages
+returns-clause-stages c = λ f v cont next ready keep.
+    let r = c.args.self.now in
+    let work = c.commit.ensures.work ∙ c.commits.ensures.once r.numbers.work ready.logged in
+    let at : c.version.result ≡ v + 1 = c.version.ensures.version ∙ ap (λ (w : Work). w.version) work ∙ ap (λ (n : ℕ). n + 1) keep.numbers.version_is in
+    c.committed-2.ensures.stages v at keep.pages.at

@@ -41,3 +41,10 @@ returns-clause-settles c = λ v cont next ready h.
     let kept = c.version_apart.ensures.keep r c.commit_step-last.new.self _ g v cont Fenced c.commit_step-last.ensures.rest h.keep in
     let whole = c.version_apart.ensures.ready r c.commit_step-last.new.self v cont next ready in
     (c.commit.ensures.committed v cont next whole, λ after. c.commit.ensures.shows g v cont next whole kept fenced.known after)
+
+pub returns-clause-stages : goal.returns-clause-stages
+returns-clause-stages c = λ v cont next ready h last page lt.
+    let r = c.args.self.now in
+    let kept = c.version_apart.ensures.keep r c.commit_step-last.new.self _ (word_at c.commit_step-last.new.nvm) v cont Fenced c.commit_step-last.ensures.rest h.keep in
+    let whole = c.version_apart.ensures.ready r c.commit_step-last.new.self v cont next ready in
+    c.commit.ensures.stages (word_at c.commit_step-last.new.nvm) v cont next whole kept page lt
