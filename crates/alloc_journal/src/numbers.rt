@@ -10,7 +10,7 @@ ghost use Rattle.pmem_layout.specs.Owners as owners;
 ghost use Rattle.pmem_layout.specs.Owners.{owner};
 ghost use Rattle.pmem_layout.specs.Rooms.{StoresOnlyIn};
 ghost use Rattle.alloc_journal.specs.declared.journal.Stage.TheVariants.{Unformatted, Rest, Logged};
-ghost use Rattle.alloc_journal.specs.Sets.{has, SameBut, changes};
+ghost use Rattle.alloc_journal.specs.Sets.{has, Puts, SameBut, changes};
 ghost use Rattle.alloc_journal.specs.Format.{NumbersStand};
 ghost use Rattle.alloc_journal.specs.Work.{is_used, once_committed, is_redo, is_logging, is_formatting, log_left, redo_left, IsExact};
 ghost use Rattle.alloc_journal.specs.Formatting.{FormatShows};
@@ -18,6 +18,7 @@ ghost use Rattle.alloc_journal.specs.Operations.{AtMostOne};
 ghost use Rattle.alloc_journal.specs.Shows.{NumbersShow};
 ghost use Rattle.alloc_journal.specs.Steps.{Logs, Redoes, Recovers};
 
+use crate::bits;
 use crate::bits::{BASE_WORDS, Bits, least, neither, put};
 use crate::journal::{Journal, Stage};
 use pmem_layout::{BASE_BITS, LOG_HEAD_AT, NUMBERS};
@@ -190,6 +191,32 @@ impl Numbers {
         ensures work { self.new.work ≡ self.old.work }
     {
         put(&mut self.running, OBJECTS + page as usize, false);
+    }
+
+    /// Says whether an object number is in use in the running state, whether it was so before or not.
+    pub fn set_object(&mut self, id: ObjId, in_use: bool)
+        requires { id < OBJECTS }
+        ensures set { Puts (index_of (Object id)) in_use self.old.running self.new.running }
+        ensures work { self.new.work ≡ self.old.work }
+    {
+        put(&mut self.running, id as usize, in_use);
+    }
+
+    /// Says whether a page number is in use in the running state, whether it was so before or not.
+    pub fn set_page(&mut self, page: PageNo, in_use: bool)
+        requires { page < PAGES }
+        ensures set { Puts (index_of (Page page)) in_use self.old.running self.new.running }
+        ensures work { self.new.work ≡ self.old.work }
+    {
+        put(&mut self.running, OBJECTS + page as usize, in_use);
+    }
+
+    /// Whether an object number is in use in the committed state, as far as that is known.
+    pub fn has_committed_object(&self, id: ObjId) -> bool
+        requires { id < OBJECTS }
+        ensures { result ≡ has self.now.work.committed (index_of (Object id)) }
+    {
+        bits::has(&self.journal.committed, id as usize)
     }
 
     /// Writes the log of the next version, in which the numbers are in use that are so in the running state at the
