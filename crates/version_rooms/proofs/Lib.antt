@@ -1,3 +1,4 @@
 pub mod Parted
 pub mod Points
 pub mod Redone
+pub mod Saved

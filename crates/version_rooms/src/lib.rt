@@ -4,5 +4,6 @@
 
 pub mod laws;
 mod rooms;
+mod running;
 
 pub use rooms::Rooms;
