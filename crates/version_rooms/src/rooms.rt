@@ -22,6 +22,7 @@ ghost use Rattle.page_store.specs.Shows.{after_store};
 ghost use Rattle.cow_fault.specs.Faults.{MayFault, faulted};
 ghost use Rattle.version_commit.specs.declared.step.Step.TheVariants as steps;
 ghost use Rattle.version_commit.specs.OnWay.{next};
+ghost use Rattle.version_commit.specs.Shows.{VersionShows};
 ghost use Rattle.durable_state.specs.Parts.{Parts};
 ghost use Rattle.version_rooms.specs.Rooms.{Contents, AreCommitted, IsAtRest, IsReady, Keeps, Logs, MayCommit, RoomsKeep, RoomsShow, Settles, TakesLogged, once_committed, without_page};
 
@@ -56,6 +57,23 @@ fn fence(nvm: &mut Pmem)
 }
 
 impl Rooms {
+    /// The rooms, of which none is at a commit.
+    pub fn new(numbers: Numbers, roots: Roots, pages: PageStore) -> Rooms
+        ensures rest { IsAtRest result }
+        ensures numbers { result.numbers ≡ numbers }
+        ensures roots { result.roots ≡ roots }
+        ensures pages { result.pages ≡ pages }
+        ensures version { (f : ℕ → Word) (v : ℕ) → WordIs LEADER Clean (f VERSION_AT) v
+            → VersionShows result.committer f v v }
+    {
+        Rooms {
+            committer: Committer::new(),
+            numbers,
+            roots,
+            pages,
+        }
+    }
+
     /// A core takes a step of the fault of a page: it prepares the page, which is true exactly at the last of these
     /// steps.
     pub fn fault_step(&mut self, nvm: &mut Pmem, page: PageNo, core: CoreNo) -> bool
