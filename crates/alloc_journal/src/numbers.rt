@@ -18,8 +18,7 @@ ghost use Rattle.alloc_journal.specs.Operations.{AtMostOne};
 ghost use Rattle.alloc_journal.specs.Shows.{NumbersShow};
 ghost use Rattle.alloc_journal.specs.Steps.{Logs, Redoes, Recovers};
 
-use crate::bits;
-use crate::bits::{BASE_WORDS, Bits, least, neither, put};
+use crate::bits::{self, BASE_WORDS, Bits, least, neither, put};
 use crate::journal::{Journal, Stage};
 use pmem_layout::{BASE_BITS, LOG_HEAD_AT, NUMBERS};
 use pmem_model::Pmem;
@@ -116,6 +115,28 @@ impl Numbers {
         ensures { IsTrue result ↔ (self.now.work.stage ≡ Logged) }
     {
         self.journal.stage == Stage::Logged
+    }
+
+    /// Whether an object number is in use in the running state.
+    pub fn is_object_used(&self, id: ObjId) -> bool
+        requires { id < OBJECTS }
+        ensures { result ≡ has self.now.running (index_of (Object id)) }
+    {
+        bits::has(&self.running, id as usize)
+    }
+
+    /// Whether no log of the committed version is left to be redone.
+    pub fn is_redone(&self) -> bool
+        ensures { IsTrue result ↔ (is_redo self.now.work.stage ≡ false) }
+    {
+        !matches!(
+            self.journal.stage,
+            Stage::Redoing
+                | Stage::BaseInFlight
+                | Stage::BaseDurable
+                | Stage::HeadCleared
+                | Stage::ClearInFlight
+        )
     }
 
     /// The least object number that is in use neither in the running nor in the committed state. None where there is

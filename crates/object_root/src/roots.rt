@@ -101,6 +101,13 @@ impl Roots {
         self.phase
     }
 
+    /// Whether recovery has cleared all tags above the version.
+    pub fn is_cleared(&self) -> bool
+        ensures { IsTrue result ↔ (steps_left self.now.phase ≡ 0) }
+    {
+        !matches!(self.phase(), Phase::Clearing(_) | Phase::Cleared)
+    }
+
     /// How far an object has come.
     pub fn stage(&self, id: ObjId) -> Stage
         requires { id < OBJECTS }
@@ -216,6 +223,8 @@ impl Roots {
     pub fn clear_step(&mut self, nvm: &mut Pmem) -> bool
         ensures last { IsTrue result ↔ (steps_left self.new.phase ≡ 0) }
         ensures fewer { (steps_left self.new.phase < steps_left self.old.phase) ⊎ (steps_left self.old.phase ≡ 0) }
+        ensures ends { steps_left self.old.phase ≢ 0 → steps_left self.new.phase ≡ 0
+            → self.new.phase ≡ phases.Records }
         ensures stages { (i : ℕ) → stage_at self.new i ≡ stage_at self.old i }
         ensures version { self.new.version ≡ self.old.version }
         ensures homes { SameHomes nvm.old nvm.new }

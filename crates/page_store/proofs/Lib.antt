@@ -6,3 +6,4 @@ pub mod BackLaws
 pub mod BackSteps
 pub mod Fewer
 pub mod Stored
+pub mod BackEnds

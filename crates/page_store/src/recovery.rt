@@ -9,7 +9,7 @@ ghost use Rattle.pmem_layout.specs.Owners as owners;
 ghost use Rattle.pmem_layout.specs.Rooms.{StoresOnlyIn};
 ghost use Rattle.page_store.specs.Slots.{durable_words, IsAllClean};
 ghost use Rattle.page_store.specs.Format.{PagesStand};
-ghost use Rattle.page_store.specs.Stages.{stage_of};
+ghost use Rattle.page_store.specs.Stages.{stage_of, IsSettled};
 ghost use Rattle.page_store.specs.Known.{Open};
 ghost use Rattle.page_store.specs.Shows.{PagesShow};
 ghost use Rattle.page_store.specs.Back.{is_back, steps_left, RecoveryShows, RecoveryMoves, at_step, passed, filled};
@@ -51,6 +51,7 @@ pub struct Recovery {
 impl Recovery {
     /// Recovery of this version begins, of a memory in which nothing but the durable words is left.
     pub fn new(version: Version) -> Recovery
+        ensures left { steps_left result ≡ RECOVERY_STEPS }
         ensures shows { (f : ℕ → Word) (saved : ℕ → Option (ℕ → ℕ))
             → IsAllClean f → PagesStand (durable_words f) version saved → RecoveryShows result f version saved }
     {
@@ -60,6 +61,13 @@ impl Recovery {
             next: Step::Read,
             is_fenced: false,
         }
+    }
+
+    /// Whether it is at its end: all pages are back, and fenced.
+    pub fn is_back(&self) -> bool
+        ensures { result ≡ is_back self.now }
+    {
+        self.is_fenced
     }
 
     /// At most one operation, by the leader. True exactly at the last, the fence, and behind it.
@@ -131,6 +139,9 @@ impl Recovery {
     pub fn finish(self) -> PageStore
         ensures shows { (f : ℕ → Word) (v : ℕ) (saved : ℕ → Option (ℕ → ℕ)) → IsTrue (is_back self)
             → RecoveryShows self f v saved → PagesShow result f v saved (filled saved f) Open }
+        // Each page may be forgotten.
+        ensures settled { (f : ℕ → Word) (v : ℕ) (saved : ℕ → Option (ℕ → ℕ)) → IsTrue (is_back self)
+            → RecoveryShows self f v saved → (page : ℕ) → page < PAGES → IsSettled (stage_of result page) }
     {
         self.pages
     }

@@ -12,12 +12,10 @@ ghost use Rattle.alloc_journal.specs.declared.journal.Stage.TheVariants.{Redoing
 ghost use Rattle.alloc_journal.specs.Sets.{Puts};
 ghost use Rattle.object_root.specs.Format.{IsChosen};
 ghost use Rattle.page_store.specs.Known.{Phase};
-ghost use Rattle.page_store.specs.Stages.{stage_of};
 ghost use Rattle.version_rooms.specs.Rooms.{Contents, RoomsShow};
 
 use crate::rooms::Rooms;
 use object_root::chosen;
-use page_store::PageStage;
 use pmem_layout::{SLOT_WORDS, SLOTS, object_slot_at};
 use pmem_model::Pmem;
 use sls_base::{OBJECTS, ObjId, PAGES, PageNo, Version};
@@ -43,14 +41,6 @@ impl Rooms {
         } }
     {
         self.numbers.set_page(page, in_use);
-    }
-
-    /// How far a page came.
-    pub fn page_stage(&self, page: PageNo) -> PageStage
-        requires { page < PAGES }
-        ensures { result ≡ stage_of self.now.pages page }
-    {
-        self.pages.stage(page)
     }
 
     /// Whether an object of this number is saved at the committed version, and these words are its record. Of an object
