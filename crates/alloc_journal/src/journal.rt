@@ -2,7 +2,7 @@
 
 ghost use Rattle.std.specs.Prelude.{◌≡◌, ◌≢◌, ◌+◌, ◌*◌, ◌^◌, ◌<◌, ◌≤◌, ◌↔◌, ℕ, Bool, IsTrue, true, false, min, slice_index};
 ghost use Rattle.pmem_model.specs.Words.{Word};
-ghost use Rattle.pmem_model.specs.Memory.{word_at, SameHomes};
+ghost use Rattle.pmem_model.specs.Memory.{word_at, SameHomes, KeepsCounts};
 ghost use Rattle.pmem_model.specs.Events.{WordIs, Clean};
 ghost use Rattle.pmem_layout.specs.Owners.{Numbers, owner};
 ghost use Rattle.pmem_layout.specs.Rooms.{StoresOnlyIn};
@@ -101,6 +101,7 @@ impl Journal {
         requires kept { IsKept (work_of self.old) }
         ensures kept { IsKept (work_of self.new) }
         ensures homes { SameHomes nvm.old nvm.new }
+        ensures counts { KeepsCounts nvm.old nvm.new }
         ensures one { AtMostOne nvm.old nvm.new }
         ensures rest { StoresOnlyIn Numbers (word_at nvm.old) (word_at nvm.new) }
         ensures last { IsTrue result ↔ (is_formatting self.new.stage ≡ false) }
@@ -175,6 +176,7 @@ impl Journal {
         requires version { self.old.version < LAST_VERSION }
         ensures kept { IsKept (work_of self.new) }
         ensures homes { SameHomes nvm.old nvm.new }
+        ensures counts { KeepsCounts nvm.old nvm.new }
         ensures one { AtMostOne nvm.old nvm.new }
         ensures rest { StoresOnlyIn Numbers (word_at nvm.old) (word_at nvm.new) }
         ensures last { IsTrue result ↔ (self.new.stage ≡ Logged) }
@@ -257,6 +259,7 @@ impl Journal {
         requires stage { self.old.stage ≡ StoringEntries }
         ensures kept { IsKept (work_of self.new) }
         ensures homes { SameHomes nvm.old nvm.new }
+        ensures counts { KeepsCounts nvm.old nvm.new }
         ensures one { AtMostOne nvm.old nvm.new }
         ensures rest { StoresOnlyIn Numbers (word_at nvm.old) (word_at nvm.new) }
         ensures stage { self.new.stage ≢ Logged }
@@ -301,6 +304,7 @@ impl Journal {
         requires kept { IsKept (work_of self.old) }
         ensures kept { IsKept (work_of self.new) }
         ensures homes { SameHomes nvm.old nvm.new }
+        ensures counts { KeepsCounts nvm.old nvm.new }
         ensures one { AtMostOne nvm.old nvm.new }
         ensures rest { StoresOnlyIn Numbers (word_at nvm.old) (word_at nvm.new) }
         ensures last { IsTrue result ↔ (is_redo self.new.stage ≡ false) }
@@ -351,6 +355,7 @@ impl Journal {
         requires stage { self.old.stage ≡ Redoing }
         ensures kept { IsKept (work_of self.new) }
         ensures homes { SameHomes nvm.old nvm.new }
+        ensures counts { KeepsCounts nvm.old nvm.new }
         ensures one { AtMostOne nvm.old nvm.new }
         ensures rest { StoresOnlyIn Numbers (word_at nvm.old) (word_at nvm.new) }
         ensures redo { is_redo self.new.stage ≡ true }
@@ -382,6 +387,7 @@ impl Journal {
         requires number { change.number < NUMBERS }
         ensures kept { IsKept (work_of self.new) }
         ensures homes { SameHomes nvm.old nvm.new }
+        ensures counts { KeepsCounts nvm.old nvm.new }
         ensures one { AtMostOne nvm.old nvm.new }
         ensures rest { StoresOnlyIn Numbers (word_at nvm.old) (word_at nvm.new) }
         ensures stage { self.new.stage ≡ Redoing }

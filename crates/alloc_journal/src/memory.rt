@@ -2,7 +2,7 @@
 
 ghost use Rattle.std.specs.Prelude.{◌≡◌, ◌+◌, ◌*◌, ◌%◌, ◌<◌, ◌≤◌, ℕ, IsTrue, List, [], ◌∷◌, length, slice_index};
 ghost use Rattle.pmem_model.specs.Words.{bursts, flushes, fences};
-ghost use Rattle.pmem_model.specs.Memory.{word_at, SameHomes, count_up};
+ghost use Rattle.pmem_model.specs.Memory.{word_at, SameHomes, count_up, KeepsCounts};
 
 use pmem_model::Pmem;
 use sls_base::{FRAME_WORDS, LEADER, LINE_WORDS, TABLE_WORDS};
@@ -15,6 +15,7 @@ pub fn store_words(nvm: &mut Pmem, at: usize, words: &[u64])
     ensures words { (i : ℕ) → word_at nvm.new i
         ≡ bursts at (length words.now) (slice_index words.now) (word_at nvm.old) i }
     ensures homes { SameHomes nvm.old nvm.new }
+    ensures counts { KeepsCounts nvm.old nvm.new }
     ensures one { nvm.new.ops ≡ count_up nvm.old.ops }
 {
     nvm.burst(at, words);
@@ -25,6 +26,7 @@ pub fn store(nvm: &mut Pmem, at: usize, word: u64)
     requires in_table { at < TABLE_WORDS }
     ensures words { (i : ℕ) → word_at nvm.new i ≡ bursts at 1 (slice_index (word ∷ [])) (word_at nvm.old) i }
     ensures homes { SameHomes nvm.old nvm.new }
+    ensures counts { KeepsCounts nvm.old nvm.new }
     ensures one { nvm.new.ops ≡ count_up nvm.old.ops }
 {
     store_words(nvm, at, &[word]);
@@ -37,6 +39,7 @@ pub fn flush(nvm: &mut Pmem, at: usize, lines: usize)
     requires in_table { at + LINE_WORDS * lines ≤ TABLE_WORDS }
     ensures words { (i : ℕ) → word_at nvm.new i ≡ flushes LEADER at (LINE_WORDS * lines) (word_at nvm.old) i }
     ensures homes { SameHomes nvm.old nvm.new }
+    ensures counts { KeepsCounts nvm.old nvm.new }
     ensures one { nvm.new.ops ≡ count_up nvm.old.ops }
 {
     nvm.flush(LEADER, at, lines);
@@ -46,6 +49,7 @@ pub fn flush(nvm: &mut Pmem, at: usize, lines: usize)
 pub fn fence(nvm: &mut Pmem)
     ensures words { (i : ℕ) → word_at nvm.new i ≡ fences LEADER (word_at nvm.old) i }
     ensures homes { SameHomes nvm.old nvm.new }
+    ensures counts { KeepsCounts nvm.old nvm.new }
     ensures one { nvm.new.ops ≡ count_up nvm.old.ops }
 {
     nvm.fence(LEADER);

@@ -2,7 +2,7 @@
 
 ghost use Rattle.std.specs.Prelude.{◌≡◌, ◌≢◌, ◌+◌, ◌<◌, ◌≤◌, ◌↔◌, ℕ, Bool, IsTrue, IsNone, IfSome, true, false, not};
 ghost use Rattle.pmem_model.specs.Words.{Word, cuts};
-ghost use Rattle.pmem_model.specs.Memory.{word_at, AllHome, SameHomes};
+ghost use Rattle.pmem_model.specs.Memory.{word_at, AllHome, SameHomes, KeepsCounts};
 ghost use Rattle.pmem_model.specs.Events.{WordIs, Clean};
 ghost use Rattle.pmem_layout.specs.declared.number.Number.TheVariants.{Object, Page};
 ghost use Rattle.pmem_layout.specs.Numbers.{index_of};
@@ -69,6 +69,7 @@ impl Numbers {
     /// exactly when they are durable, and where a memory is formatted already.
     pub fn format_step(&mut self, nvm: &mut Pmem) -> bool
         ensures homes { SameHomes nvm.old nvm.new }
+        ensures counts { KeepsCounts nvm.old nvm.new }
         ensures one { AtMostOne nvm.old nvm.new }
         ensures rest { StoresOnlyIn owners.Numbers (word_at nvm.old) (word_at nvm.new) }
         ensures last { IsTrue result ↔ (is_formatting self.new.work.stage ≡ false) }
@@ -246,6 +247,7 @@ impl Numbers {
     pub fn log_step(&mut self, nvm: &mut Pmem) -> bool
         requires version { self.old.work.version < LAST_VERSION }
         ensures homes { SameHomes nvm.old nvm.new }
+        ensures counts { KeepsCounts nvm.old nvm.new }
         ensures one { AtMostOne nvm.old nvm.new }
         ensures rest { StoresOnlyIn owners.Numbers (word_at nvm.old) (word_at nvm.new) }
         ensures last { IsTrue result ↔ (self.new.work.stage ≡ Logged) }
@@ -279,6 +281,7 @@ impl Numbers {
     /// there is nothing to do.
     pub fn apply_step(&mut self, nvm: &mut Pmem) -> bool
         ensures homes { SameHomes nvm.old nvm.new }
+        ensures counts { KeepsCounts nvm.old nvm.new }
         ensures one { AtMostOne nvm.old nvm.new }
         ensures rest { StoresOnlyIn owners.Numbers (word_at nvm.old) (word_at nvm.new) }
         ensures last { IsTrue result ↔ (is_redo self.new.work.stage ≡ false) }
@@ -304,6 +307,7 @@ impl Numbers {
     /// do.
     pub fn redo_step(&mut self, nvm: &mut Pmem) -> bool
         ensures homes { SameHomes nvm.old nvm.new }
+        ensures counts { KeepsCounts nvm.old nvm.new }
         ensures one { AtMostOne nvm.old nvm.new }
         ensures rest { StoresOnlyIn owners.Numbers (word_at nvm.old) (word_at nvm.new) }
         ensures last { IsTrue result ↔ (is_redo self.new.work.stage ≡ false) }

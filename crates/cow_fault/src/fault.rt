@@ -2,7 +2,7 @@
 
 ghost use Rattle.std.specs.Prelude.{◌≡◌, ◌≢◌, ℕ, ◌+◌, ◌<◌, ◌≤◌, ◌↔◌, Option, IsTrue};
 ghost use Rattle.sls_base.specs.declared.limits.TheConstants.{CORES, LAST_VERSION, PAGES};
-ghost use Rattle.pmem_model.specs.Memory.{word_at, SameHomes, count_up};
+ghost use Rattle.pmem_model.specs.Memory.{word_at, SameHomes, count_up, KeepsCounts};
 ghost use Rattle.pmem_layout.specs.Owners as owners;
 ghost use Rattle.pmem_layout.specs.Rooms.{StoresOnlyIn};
 ghost use Rattle.page_store.specs.Slots.{IsPageHome};
@@ -37,6 +37,7 @@ pub fn step(
     ensures stage { stage_of pages.new page ≡ faulted (stage_of pages.old page) core }
     ensures others { (i : ℕ) → i ≢ page → stage_of pages.new i ≡ stage_of pages.old i }
     ensures homes { SameHomes nvm.old nvm.new }
+    ensures counts { KeepsCounts nvm.old nvm.new }
     ensures rest { StoresOnlyIn owners.Pages (word_at nvm.old) (word_at nvm.new) }
     ensures shows { (saved now : ℕ → Option (ℕ → ℕ)) (phase : Phase)
         → PagesShow pages.old (word_at nvm.old) version saved now phase

@@ -3,7 +3,7 @@
 ghost use Rattle.std.specs.Prelude.{◌≡◌, ◌+◌, ◌*◌, ◌%◌, ◌<◌, ◌≤◌, ℕ, length, slice_index};
 ghost use Rattle.pmem_model.specs.Words.{flushes};
 ghost use Rattle.pmem_model.specs.Events.{IsBurst, IsCalm};
-ghost use Rattle.pmem_model.specs.Memory.{SameHomes, word_at, count_up};
+ghost use Rattle.pmem_model.specs.Memory.{SameHomes, word_at, count_up, KeepsCounts};
 
 use pmem_model::Pmem;
 use sls_base::{FRAME_WORDS, LEADER, LINE_WORDS, TABLE_WORDS};
@@ -25,6 +25,7 @@ pub fn store(nvm: &mut Pmem, at: usize, words: &[u64])
     requires in_table { at + length words.now ≤ TABLE_WORDS }
     ensures words { IsBurst (word_at nvm.old) (word_at nvm.new) at (length words.now) (slice_index words.now) }
     ensures homes { SameHomes nvm.old nvm.new }
+    ensures counts { KeepsCounts nvm.old nvm.new }
     ensures operations { nvm.new.ops ≡ count_up nvm.old.ops }
 {
     nvm.burst(at, words);
@@ -39,6 +40,7 @@ pub fn flush(nvm: &mut Pmem, at: usize, lines: usize)
     ensures words { (i : ℕ) → word_at nvm.new i ≡ flushes LEADER at (8 * lines) (word_at nvm.old) i }
     ensures calm { IsCalm (word_at nvm.old) (word_at nvm.new) }
     ensures homes { SameHomes nvm.old nvm.new }
+    ensures counts { KeepsCounts nvm.old nvm.new }
     ensures operations { nvm.new.ops ≡ count_up nvm.old.ops }
 {
     nvm.flush(LEADER, at, lines);

@@ -2,7 +2,7 @@
 
 ghost use Rattle.std.specs.Prelude.{◌≡◌, ◌≢◌, ◌⊎◌, ℕ, ◌+◌, ◌*◌, ◌<◌, ◌≤◌, ◌↔◌, IsTrue, Option, slice_index, slice_index_or};
 ghost use Rattle.pmem_model.specs.Words.{Word};
-ghost use Rattle.pmem_model.specs.Memory.{SameHomes, word_at};
+ghost use Rattle.pmem_model.specs.Memory.{SameHomes, word_at, KeepsCounts};
 ghost use Rattle.pmem_model.specs.Events.{IsCalm};
 ghost use Rattle.pmem_layout.specs.Owners.{Objects};
 ghost use Rattle.pmem_layout.specs.Rooms.{FencedIn, StoresOnlyIn};
@@ -148,6 +148,7 @@ impl Roots {
         ensures step { Writes self.old.phase (stage_at self.old id) (stage_at self.new id) result }
         ensures kept { KeepsOthers self.old self.new id }
         ensures homes { SameHomes nvm.old nvm.new }
+        ensures counts { KeepsCounts nvm.old nvm.new }
         ensures operations { AtMostOne nvm.old nvm.new }
         ensures rest { StoresOnlyIn Objects (word_at nvm.old) (word_at nvm.new) }
         // Whatever is saved, and whatever is written that has these words as its record.
@@ -177,6 +178,7 @@ impl Roots {
         ensures step { StoresTag self.old.phase (stage_at self.old id) (stage_at self.new id) result }
         ensures kept { KeepsOthers self.old self.new id }
         ensures homes { SameHomes nvm.old nvm.new }
+        ensures counts { KeepsCounts nvm.old nvm.new }
         ensures operations { AtMostOne nvm.old nvm.new }
         ensures rest { StoresOnlyIn Objects (word_at nvm.old) (word_at nvm.new) }
         ensures shows { KeepsShowing self.old self.new (word_at nvm.old) (word_at nvm.new) }
@@ -228,6 +230,7 @@ impl Roots {
         ensures stages { (i : ℕ) → stage_at self.new i ≡ stage_at self.old i }
         ensures version { self.new.version ≡ self.old.version }
         ensures homes { SameHomes nvm.old nvm.new }
+        ensures counts { KeepsCounts nvm.old nvm.new }
         ensures operations { AtMostOne nvm.old nvm.new }
         ensures rest { StoresOnlyIn Objects (word_at nvm.old) (word_at nvm.new) }
         ensures shows { KeepsShowing self.old self.new (word_at nvm.old) (word_at nvm.new) }
@@ -259,6 +262,7 @@ impl Roots {
         ensures stage { (slot : Slot) × stage_at self.new id ≡ stages.Stored slot }
         ensures kept { KeepsOthers self.old self.new id }
         ensures homes { SameHomes nvm.old nvm.new }
+        ensures counts { KeepsCounts nvm.old nvm.new }
         ensures operations { AtMostOne nvm.old nvm.new }
         ensures rest { StoresOnlyIn Objects (word_at nvm.old) (word_at nvm.new) }
         ensures shows { (v : ℕ) (saved next : ℕ → Option Obj) → IsRecordOf (next id) (slice_index words.now)
@@ -278,6 +282,7 @@ impl Roots {
         ensures stage { stage_at self.new id ≡ stages.Flushed slot }
         ensures kept { KeepsOthers self.old self.new id }
         ensures homes { SameHomes nvm.old nvm.new }
+        ensures counts { KeepsCounts nvm.old nvm.new }
         ensures operations { AtMostOne nvm.old nvm.new }
         ensures calm { IsCalm (word_at nvm.old) (word_at nvm.new) }
         ensures shows { KeepsShowing self.old self.new (word_at nvm.old) (word_at nvm.new) }
@@ -293,6 +298,7 @@ impl Roots {
         ensures stage { stage_at self.new id ≡ stages.TagStored slot }
         ensures kept { KeepsOthers self.old self.new id }
         ensures homes { SameHomes nvm.old nvm.new }
+        ensures counts { KeepsCounts nvm.old nvm.new }
         ensures operations { AtMostOne nvm.old nvm.new }
         ensures rest { StoresOnlyIn Objects (word_at nvm.old) (word_at nvm.new) }
         ensures shows { KeepsShowing self.old self.new (word_at nvm.old) (word_at nvm.new) }
@@ -310,6 +316,7 @@ impl Roots {
         ensures stage { stage_at self.new id ≡ stages.TagFlushed slot }
         ensures kept { KeepsOthers self.old self.new id }
         ensures homes { SameHomes nvm.old nvm.new }
+        ensures counts { KeepsCounts nvm.old nvm.new }
         ensures operations { AtMostOne nvm.old nvm.new }
         ensures calm { IsCalm (word_at nvm.old) (word_at nvm.new) }
         ensures shows { KeepsShowing self.old self.new (word_at nvm.old) (word_at nvm.new) }
@@ -325,6 +332,7 @@ impl Roots {
         requires phase { self.old.phase ≡ phases.Clearing tag }
         ensures phase { Passes self.old self.new (phases.Clearing (tag + 1)) }
         ensures homes { SameHomes nvm.old nvm.new }
+        ensures counts { KeepsCounts nvm.old nvm.new }
         ensures operations { AtMostOne nvm.old nvm.new }
         ensures rest { StoresOnlyIn Objects (word_at nvm.old) (word_at nvm.new) }
         ensures shows { KeepsShowing self.old self.new (word_at nvm.old) (word_at nvm.new) }

@@ -83,7 +83,7 @@ module _ {test : ℕ → Bool} {f g : ℕ → Word} (only : StoresInPages test f
       → PageShows stage g v page saved (after_stores test g now page) Open
   page_runs stage v page saved now lt noted h =
       let shown : Bool → Type 0 = λ passes. PageShows stage g v page saved
-          (if passes then Some (λ j. (g (frame_at (runtime_frame page) + j)).cached) else now page) Open in
+      (if passes then Some (λ j. (g (frame_at (runtime_frame page) + j)).cached) else now page) Open in
       ⊎_elim
       (λ (passes : test page ≡ true). subst shown (sym passes) (stored stage lt (noted passes) h))
       (λ (fails : test page ≡ false). subst shown (sym fails) (unstored lt fails h))

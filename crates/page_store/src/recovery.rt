@@ -4,7 +4,7 @@
 ghost use Rattle.std.specs.Prelude.{◌≡◌, ℕ, ◌+◌, ◌<◌, ◌≤◌, ◌↔◌, ◌⊎◌, Option, IsTrue, false, true};
 ghost use Rattle.sls_base.specs.declared.limits.TheConstants.{LAST_VERSION, PAGES};
 ghost use Rattle.pmem_model.specs.Words.{Word};
-ghost use Rattle.pmem_model.specs.Memory.{word_at, AllHome, SameHomes, count_up};
+ghost use Rattle.pmem_model.specs.Memory.{word_at, AllHome, SameHomes, count_up, KeepsCounts};
 ghost use Rattle.pmem_layout.specs.Owners as owners;
 ghost use Rattle.pmem_layout.specs.Rooms.{StoresOnlyIn};
 ghost use Rattle.page_store.specs.Slots.{durable_words, IsAllClean};
@@ -78,7 +78,7 @@ impl Recovery {
         ensures left { is_back self.old ≡ false → steps_left self.new < steps_left self.old }
         ensures stays { is_back self.old ≡ true → self.new ≡ self.old }
         ensures one { (nvm.new ≡ nvm.old) ⊎ (nvm.new.ops ≡ count_up nvm.old.ops) }
-        ensures cuts { nvm.new.cuts ≡ nvm.old.cuts }
+        ensures counts { KeepsCounts nvm.old nvm.new }
         ensures home { AllHome nvm.new }
         ensures rest { StoresOnlyIn owners.Pages (word_at nvm.old) (word_at nvm.new) }
         ensures shows { (saved : ℕ → Option (ℕ → ℕ)) → RecoveryShows self.old (word_at nvm.old) version saved

@@ -5,7 +5,7 @@ ghost use Rattle.sls_base.specs.declared.limits.TheConstants.{CORES, FRAME_WORDS
 ghost use Rattle.sls_base.specs.declared.fixed.TheConstants.{LEADER};
 ghost use Rattle.pmem_model.specs.Words.{Word};
 ghost use Rattle.pmem_model.specs.Events.{Clean, WordIs, IsBurst};
-ghost use Rattle.pmem_model.specs.Memory.{word_at, SameHomes, count_up};
+ghost use Rattle.pmem_model.specs.Memory.{word_at, SameHomes, count_up, KeepsCounts};
 ghost use Rattle.pmem_layout.specs.Owners as owners;
 ghost use Rattle.pmem_layout.specs.Places.{runtime_frame, frame_at};
 ghost use Rattle.pmem_layout.specs.Rooms.{StoresOnlyIn};
@@ -105,6 +105,7 @@ impl PageStore {
         requires fresh { stage_of self.old page ≡ PageStage.Fresh }
         ensures one { nvm.new.ops ≡ count_up nvm.old.ops }
         ensures homes { SameHomes nvm.old nvm.new }
+        ensures counts { KeepsCounts nvm.old nvm.new }
         ensures rest { StoresOnlyIn owners.Pages (word_at nvm.old) (word_at nvm.new) }
         ensures stage { stage_of self.new page ≡ PageStage.Writable Origin.Zeros Writes.Nothing }
         ensures others { (i : ℕ) → i ≢ page → stage_of self.new i ≡ stage_of self.old i }
@@ -126,6 +127,7 @@ impl PageStore {
         ensures last { IsTrue result ↔ (stage_of self.old page ≡ PageStage.Preparing core Preparation.FenceCopy) }
         ensures one { nvm.new.ops ≡ count_up nvm.old.ops }
         ensures homes { SameHomes nvm.old nvm.new }
+        ensures counts { KeepsCounts nvm.old nvm.new }
         ensures rest { StoresOnlyIn owners.Pages (word_at nvm.old) (word_at nvm.new) }
         ensures stage { stage_of self.new page ≡ copied (stage_of self.old page) core }
         ensures others { (i : ℕ) → i ≢ page → stage_of self.new i ≡ stage_of self.old i }
@@ -164,6 +166,7 @@ impl PageStore {
         ensures last { IsTrue result ↔ (stage_of self.old page ≡ PageStage.Preparing core Preparation.FenceTag) }
         ensures one { nvm.new.ops ≡ count_up nvm.old.ops }
         ensures homes { SameHomes nvm.old nvm.new }
+        ensures counts { KeepsCounts nvm.old nvm.new }
         ensures rest { StoresOnlyIn owners.Pages (word_at nvm.old) (word_at nvm.new) }
         ensures stage { stage_of self.new page ≡ tagged (stage_of self.old page) }
         ensures others { (i : ℕ) → i ≢ page → stage_of self.new i ≡ stage_of self.old i }
@@ -216,6 +219,7 @@ impl PageStore {
         ensures one { (flushed (stage_of self.old page) ≡ stage_of self.old page → nvm.new ≡ nvm.old)
             × (flushed (stage_of self.old page) ≢ stage_of self.old page → nvm.new.ops ≡ count_up nvm.old.ops) }
         ensures homes { SameHomes nvm.old nvm.new }
+        ensures counts { KeepsCounts nvm.old nvm.new }
         ensures rest { StoresOnlyIn owners.Pages (word_at nvm.old) (word_at nvm.new) }
         ensures stage { stage_of self.new page ≡ flushed (stage_of self.old page) }
         ensures others { (i : ℕ) → i ≢ page → stage_of self.new i ≡ stage_of self.old i }

@@ -45,6 +45,11 @@ abbrev pub commits_behind : Memory → Memory → ℕ
 commits_behind old new =
     if (word_at new VERSION_AT).durable == (word_at old VERSION_AT).durable then old.commits else count_up old.commits
 
+-- No power was cut, and a commit was counted if there was one.
+pub record KeepsCounts (old new : Memory) : Type 0 where
+  pub cuts : new.cuts ≡ old.cuts
+  pub commits : new.commits ≡ commits_behind old new
+
 -- a frame that was lent: its words, and how many copies, flushes and fences there were since
 pub record LentFrame : Type 0 where
   pub bank : BankWords

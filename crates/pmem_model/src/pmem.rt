@@ -3,7 +3,7 @@
 ghost use Rattle.std.specs.Prelude.{◌≡◌, ◌≢◌, ℕ, ◌+◌, ◌-◌, ◌*◌, ◌%◌, ◌<◌, ◌≤◌, ◌==◌, IsTrue, length, slice_index, if◌then◌else◌, IfSome, IfNone, IfOk, false, Some, None, slice_set};
 ghost use Rattle.pmem_model.specs.Words.{is_within, word_in, bursts, flushes, fences, writes_back, cuts};
 ghost use Rattle.pmem_model.specs.Places.{bank_of, offset_of, bank_size, bank_at, zero_word};
-ghost use Rattle.pmem_model.specs.Memory.{word_at, is_at_home, is_frame_home, frame_begin, AllHome, SameHomes, SameHomesBut, count_up, count_by, commits_behind};
+ghost use Rattle.pmem_model.specs.Memory.{word_at, is_at_home, is_frame_home, frame_begin, AllHome, SameHomes, SameHomesBut, count_up, count_by, commits_behind, KeepsCounts};
 
 use crate::banks::Banks;
 use crate::flushes::FlushesByCore;
@@ -118,6 +118,7 @@ impl Pmem {
             (word_at self.old) i }
         ensures homes { SameHomes self.old self.new }
         ensures counts { self.new ≡ record self.old { banks = self.new.banks; ops = count_up self.old.ops } }
+        ensures kept { KeepsCounts self.old self.new }
     {
         banks::store(&mut self.banks, at, words);
         self.ops = self.ops.saturating_add(1);
@@ -134,6 +135,7 @@ impl Pmem {
             ≡ bursts (frame_begin to) 512 (λ k. (word_at self.old (frame_begin from + k)).cached) (word_at self.old) i }
         ensures homes { SameHomes self.old self.new }
         ensures counts { self.new ≡ record self.old { banks = self.new.banks; ops = count_up self.old.ops } }
+        ensures kept { KeepsCounts self.old self.new }
     {
         banks::copy(&mut self.banks, from, to);
         self.ops = self.ops.saturating_add(1);
@@ -150,6 +152,7 @@ impl Pmem {
         ensures words { (i : ℕ) → word_at self.new i ≡ flushes core at (8 * lines) (word_at self.old) i }
         ensures homes { SameHomes self.old self.new }
         ensures counts { self.new ≡ record self.old { banks = self.new.banks; ops = count_up self.old.ops } }
+        ensures kept { KeepsCounts self.old self.new }
     {
         fences::flush(&mut self.banks, &mut self.flushes, core, at, lines);
         self.ops = self.ops.saturating_add(1);
@@ -165,6 +168,7 @@ impl Pmem {
           ops = count_up self.old.ops;
           commits = commits_behind self.old self.new;
         } }
+        ensures kept { KeepsCounts self.old self.new }
     {
         let before = banks::values(&self.banks, VERSION_AT).1;
         fences::fence(&mut self.banks, &mut self.flushes, core);
@@ -183,6 +187,7 @@ impl Pmem {
           banks = self.new.banks;
           commits = commits_behind self.old self.new;
         } }
+        ensures kept { KeepsCounts self.old self.new }
     {
         let before = banks::values(&self.banks, VERSION_AT).1;
         banks::write_back(&mut self.banks, at);

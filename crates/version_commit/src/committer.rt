@@ -2,7 +2,7 @@
 
 ghost use Rattle.std.specs.Prelude.{◌≡◌, ℕ, ◌↔◌, IsTrue};
 ghost use Rattle.pmem_model.specs.Words.{Word};
-ghost use Rattle.pmem_model.specs.Memory.{word_at, SameHomes, count_up};
+ghost use Rattle.pmem_model.specs.Memory.{word_at, SameHomes, count_up, KeepsCounts};
 ghost use Rattle.pmem_model.specs.Events.{WordIs, Clean};
 ghost use Rattle.pmem_layout.specs.Owners as owners;
 ghost use Rattle.pmem_layout.specs.Rooms.{StoresOnlyIn};
@@ -49,6 +49,7 @@ impl Committer {
         ensures steps { self.new ≡ record self.old { format = next self.old.format } }
         ensures one { nvm.new.ops ≡ count_up nvm.old.ops }
         ensures homes { SameHomes nvm.old nvm.new }
+        ensures counts { KeepsCounts nvm.old nvm.new }
         ensures words { (i : ℕ) → word_at nvm.new i
             ≡ words_after self.old.format FORMAT_AT FORMAT_WORD (word_at nvm.old) i }
         ensures rest { StoresOnlyIn owners.Format (word_at nvm.old) (word_at nvm.new) }
@@ -69,6 +70,7 @@ impl Committer {
         ensures steps { self.new ≡ record self.old { version = next self.old.version } }
         ensures one { nvm.new.ops ≡ count_up nvm.old.ops }
         ensures homes { SameHomes nvm.old nvm.new }
+        ensures counts { KeepsCounts nvm.old nvm.new }
         ensures words { (i : ℕ) → word_at nvm.new i
             ≡ words_after self.old.version VERSION_AT version (word_at nvm.old) i }
         ensures rest { StoresOnlyIn owners.Version (word_at nvm.old) (word_at nvm.new) }

@@ -2,7 +2,7 @@
 
 ghost use Rattle.std.specs.Prelude.{◌≡◌, ◌≢◌, ℕ, ◌+◌, ◌<◌, ◌↔◌, IsTrue};
 ghost use Rattle.pmem_model.specs.Words.{Word};
-ghost use Rattle.pmem_model.specs.Memory.{word_at, SameHomes, count_up};
+ghost use Rattle.pmem_model.specs.Memory.{word_at, SameHomes, count_up, KeepsCounts};
 ghost use Rattle.pmem_model.specs.Events.{WordCalm};
 ghost use Rattle.version_commit.specs.OnWay.{IsOnWay, next, durable_after, reads_after, words_after};
 
@@ -25,6 +25,7 @@ pub fn go_on(nvm: &mut Pmem, step: Step, at: usize, value: u64)
     ensures words { (i : ℕ) → word_at nvm.new i ≡ words_after step at value (word_at nvm.old) i }
     ensures others { (i : ℕ) → i ≢ at → WordCalm (word_at nvm.old i) (word_at nvm.new i) }
     ensures homes { SameHomes nvm.old nvm.new }
+    ensures counts { KeepsCounts nvm.old nvm.new }
     ensures one { nvm.new.ops ≡ count_up nvm.old.ops }
     ensures shows { (was reads : ℕ) → IsOnWay step (word_at nvm.old at) was reads
         → IsOnWay (next step) (word_at nvm.new at) (durable_after step was reads) (reads_after step value reads) }

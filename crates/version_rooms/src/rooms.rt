@@ -6,7 +6,7 @@ ghost use Rattle.kobj_codec.specs.declared.obj.Obj.{Obj};
 ghost use Rattle.sls_base.specs.declared.limits.TheConstants.{CORES, FRAME_WORDS, LAST_VERSION, OBJECTS, PAGES, VERSION_AT};
 ghost use Rattle.pmem_model.specs.Words.{Word};
 ghost use Rattle.pmem_model.specs.Events.{Clean, IsBurst, IsCalm, IsFenced, WordIs};
-ghost use Rattle.pmem_model.specs.Memory.{word_at, AllHome, SameHomes, count_up};
+ghost use Rattle.pmem_model.specs.Memory.{word_at, AllHome, SameHomes, count_up, KeepsCounts};
 ghost use Rattle.pmem_layout.specs.Places.{frame_at, runtime_frame};
 ghost use Rattle.alloc_journal.specs.declared.journal.Stage.TheVariants as logs;
 ghost use Rattle.alloc_journal.specs.Sets.{changes};
@@ -51,6 +51,7 @@ fn fence(nvm: &mut Pmem)
     ensures fenced { IsFenced LEADER (word_at nvm.old) (word_at nvm.new) }
     ensures one { nvm.new.ops ≡ count_up nvm.old.ops }
     ensures homes { SameHomes nvm.old nvm.new }
+    ensures counts { KeepsCounts nvm.old nvm.new }
 {
     pmem_model::laws::what_is_known();
     nvm.fence(LEADER);
@@ -88,6 +89,7 @@ impl Rooms {
         ensures rest { self.new ≡ record self.old { pages = self.new.pages } }
         ensures one { nvm.new.ops ≡ count_up nvm.old.ops }
         ensures homes { SameHomes nvm.old nvm.new }
+        ensures counts { KeepsCounts nvm.old nvm.new }
         ensures shows { (phase : Phase) → Keeps self.old self.new (word_at nvm.old) (word_at nvm.new) phase phase }
     {
         rooms_are_apart();
@@ -124,6 +126,7 @@ impl Rooms {
             × (flushed (stage_of self.old.pages page) ≢ stage_of self.old.pages page
             → nvm.new.ops ≡ count_up nvm.old.ops) }
         ensures homes { SameHomes nvm.old nvm.new }
+        ensures counts { KeepsCounts nvm.old nvm.new }
         ensures shows { Keeps self.old self.new (word_at nvm.old) (word_at nvm.new) Open Open }
     {
         rooms_are_apart();
@@ -136,6 +139,7 @@ impl Rooms {
         ensures same { self.new ≡ self.old }
         ensures one { nvm.new.ops ≡ count_up nvm.old.ops }
         ensures homes { SameHomes nvm.old nvm.new }
+        ensures counts { KeepsCounts nvm.old nvm.new }
         ensures shows { Keeps self.old self.new (word_at nvm.old) (word_at nvm.new) Open Fenced }
     {
         fenced_rooms();
@@ -150,6 +154,7 @@ impl Rooms {
         ensures others { KeepsOthers self.old.roots self.new.roots id }
         ensures rest { self.new ≡ record self.old { roots = self.new.roots } }
         ensures homes { SameHomes nvm.old nvm.new }
+        ensures counts { KeepsCounts nvm.old nvm.new }
         ensures one { (nvm.new.ops ≡ nvm.old.ops) ⊎ (nvm.new.ops ≡ count_up nvm.old.ops) }
         ensures shows { (v : ℕ) (c : Contents) (phase : Phase) → IsRecordOf (c.objects id) (slice_index words.now)
             → RoomsShow self.old (word_at nvm.old) v c phase → RoomsShow self.new (word_at nvm.new) v c phase }
@@ -167,6 +172,7 @@ impl Rooms {
         ensures others { KeepsOthers self.old.roots self.new.roots id }
         ensures rest { self.new ≡ record self.old { roots = self.new.roots } }
         ensures homes { SameHomes nvm.old nvm.new }
+        ensures counts { KeepsCounts nvm.old nvm.new }
         ensures one { (nvm.new.ops ≡ nvm.old.ops) ⊎ (nvm.new.ops ≡ count_up nvm.old.ops) }
         ensures shows { (phase : Phase) → Keeps self.old self.new (word_at nvm.old) (word_at nvm.new) phase phase }
     {
@@ -181,6 +187,7 @@ impl Rooms {
         ensures rest { self.new ≡ record self.old { roots = self.new.roots } }
         ensures one { nvm.new.ops ≡ count_up nvm.old.ops }
         ensures homes { SameHomes nvm.old nvm.new }
+        ensures counts { KeepsCounts nvm.old nvm.new }
         ensures shows { (phase : Phase) → Keeps self.old self.new (word_at nvm.old) (word_at nvm.new) phase Fenced }
     {
         fenced_rooms();
@@ -218,6 +225,7 @@ impl Rooms {
         ensures rest { self.new ≡ record self.old { numbers = self.new.numbers } }
         ensures one { (nvm.new.ops ≡ count_up nvm.old.ops) ⊎ (nvm.new.ops ≡ nvm.old.ops) }
         ensures homes { SameHomes nvm.old nvm.new }
+        ensures counts { KeepsCounts nvm.old nvm.new }
         ensures shows { (phase : Phase) → Keeps self.old self.new (word_at nvm.old) (word_at nvm.new) phase phase }
     {
         rooms_are_apart();
@@ -237,6 +245,7 @@ impl Rooms {
         ensures rest { self.new ≡ record self.old { numbers = self.new.numbers } }
         ensures one { (nvm.new.ops ≡ count_up nvm.old.ops) ⊎ (nvm.new.ops ≡ nvm.old.ops) }
         ensures homes { SameHomes nvm.old nvm.new }
+        ensures counts { KeepsCounts nvm.old nvm.new }
         ensures shows { (phase : Phase) → Keeps self.old self.new (word_at nvm.old) (word_at nvm.new) phase phase }
     {
         rooms_are_apart();
@@ -248,6 +257,7 @@ impl Rooms {
     pub fn commit_step(&mut self, nvm: &mut Pmem) -> bool
         ensures one { nvm.new.ops ≡ count_up nvm.old.ops }
         ensures homes { SameHomes nvm.old nvm.new }
+        ensures counts { KeepsCounts nvm.old nvm.new }
         ensures step { result ≡ false
             → self.new ≡ record self.old {
               committer = record self.old.committer {

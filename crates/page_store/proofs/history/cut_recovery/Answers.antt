@@ -8,7 +8,7 @@ use Rattle.page_store.proofs.history.cut_recovery.Goals as goal
 
 pub loop-done-preserved : goal.loop-done-preserved
 loop-done-preserved c = record {
-  cuts = c.step.ensures.cuts ∙ c.loop-done.invariant.cuts;
+  cuts = c.step.ensures.counts.cuts ∙ c.loop-done.invariant.cuts;
   home = c.step.ensures.home;
   shows = λ saved h. c.step.ensures.shows saved (c.loop-done.invariant.shows saved h);
 }

@@ -5,7 +5,7 @@ use Rattle.page_store.proofs.history.recover.Goals as goal
 
 pub loop-done-preserved : goal.loop-done-preserved
 loop-done-preserved c = record {
-  cuts = c.step.ensures.cuts ∙ c.loop-done.invariant.cuts;
+  cuts = c.step.ensures.counts.cuts ∙ c.loop-done.invariant.cuts;
   home = c.step.ensures.home;
   left = fewer_left c.loop-done.recovery c.step.new.self c.loop-done._done c.loop-done-test.true c.step.ensures.left c.step.ensures.stays
       c.loop-done.invariant.left;
