@@ -1,6 +1,6 @@
 //! From a text to the words of its program.
 
-ghost use Rattle.std.specs.Prelude.{◌≡◌, ◌+◌, ◌++◌, IfOk, IfErr, OnOk, length, vec_len};
+ghost use Rattle.std.specs.Prelude.{◌≡◌, ◌<◌, ◌+◌, ◌++◌, Err, IfOk, IfErr, OnOk, length, vec_len};
 ghost use Rattle.std.specs.Option.{option_to_list};
 ghost use Rattle.rv_asm.specs.Program.{fault_in, IsAssembled};
 ghost use Rattle.rv_asm.specs.Told.{IsTold};
@@ -21,6 +21,8 @@ use std::alloc::{AllocError, Global};
 pub fn assemble(alloc: Global, text: &[u8]) -> Result<Vec<u32>, AsmError>
     ensures ok { IfOk result (λ words. IsAssembled text.now words.items) }
     ensures bad { IfErr result (IsTold (fault_in text.now)) }
+    // To tell that a text is too long takes no memory.
+    ensures too_long { TEXT_BYTES < length text.now → result ≡ Err (AsmError.Bad 0 AsmCause.Long) }
 {
     if text.len() > TEXT_BYTES {
         return Err(AsmError::Bad {
