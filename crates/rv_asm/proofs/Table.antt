@@ -1,10 +1,9 @@
 -- The ops of the mnemonics are those of the table of instructions.
-use Rattle.std.proofs.Common.{◌≡◌, ℕ, inl, inr, IfSome, List, [], ◌∷◌, refl, lit<, rules}
+use Rattle.std.proofs.Common.{ℕ, IfSome, List, [], ◌∷◌, rules}
 use Rattle.std.proofs.lemmas.Bool.{cond_both}
 use Rattle.std.specs.List.{AllByRecursion}
 use Rattle.std.specs.Str.{bytes_eq}
-use Rattle.rv_asm.specs.declared.mnemonic.Mnemonic.{Mnemonic}
-use Rattle.rv_asm.specs.Names.{Entry, branches, accesses, immediates, registers, others, mnemonics, named, mnemonic_of, IsMnemonic}
+use Rattle.rv_asm.specs.Names.{Entry, mnemonics, named, mnemonic_of, IsMnemonic}
 
 abbrev AreKnown : List Entry → Type 0
 AreKnown entries = AllByRecursion (λ (e : Entry). IsMnemonic e.1) entries
