@@ -73,12 +73,12 @@ unfolding state_of
 marked_state a b rest page fresh slots past links zero =
     let list : (i : ℕ) → list_at b.links i ≡ list_at a.links i = λ i. rw links refl in
     let object : (i : ℕ) → object_at rest.content b i ≡ object_at rest.content a i = λ i.
-        elim (cases_lt i OBJECTS) [
-          | inl below ↦
-              ap (λ (s : Slot). object_of rest.content s (list_at b.links i)) (slots i below)
-              ∙ object_same rest.content page zero fresh (slot_at a i) (list_at b.links i)
-          | inr behind ↦ ap (λ (s : Slot). object_of rest.content s (list_at b.links i)) (past i behind)
-        ]
-        ∙ ap (object_of rest.content (slot_at a i)) (list i) in
+    elim (cases_lt i OBJECTS) [
+      | inl below ↦
+          ap (λ (s : Slot). object_of rest.content s (list_at b.links i)) (slots i below)
+          ∙ object_same rest.content page zero fresh (slot_at a i) (list_at b.links i)
+      | inr behind ↦ ap (λ (s : Slot). object_of rest.content s (list_at b.links i)) (past i behind)
+    ]
+    ∙ ap (object_of rest.content (slot_at a i)) (list i) in
     let cores : cores_of (slot_at b SCHEDULER) ≡ cores_of (slot_at a SCHEDULER) = ap cores_of (slots SCHEDULER (omega arith)) ∙ cores_same page fresh (slot_at a SCHEDULER) in
     rw (fun_ext object, cores, list RUN_QUEUE) refl

@@ -32,8 +32,8 @@ returns c =
     let count : length now ≡ length old = c.loop-p.auto.p-items ∙ ap length same in
     let least : length old ≤ length now = subst (λ (n : ℕ). n ≤ length now) count (omega arith) in
     let filled : take (length old) (now ++ drop (length now) old) ≡ now =
-        ap (λ (l : List MemPage). take (length old) (now ++ l)) (drop_all (length now) old least)
-        ∙ ap (take (length old)) (append-nil now) ∙ take_all (length old) now (subst (λ (n : ℕ). length now ≤ n) count (omega arith)) in
+    ap (λ (l : List MemPage). take (length old) (now ++ l)) (drop_all (length now) old least)
+    ∙ ap (take (length old)) (append-nil now) ∙ take_all (length old) now (subst (λ (n : ℕ). length now ≤ n) count (omega arith)) in
     filled ∙ c.loop-p.invariant
     ∙ ap (λ (l : List MemPage). map f (take i lent) ++ l) (drop_all i lent past)
     ∙ append-nil (map f (take i lent)) ∙ ap (map f) (take_all i lent past ∙ same)
