@@ -1,6 +1,6 @@
 //! An object back from its record.
 
-ghost use Rattle.std.specs.Prelude.{◌≡◌, ◌≢◌, ℕ, ◌<◌, true, All, [], Some};
+ghost use Rattle.std.specs.Prelude.{◌≡◌, ◌≢◌, ◌↔◌, ℕ, ◌<◌, true, All, [], IsTrue, Some};
 ghost use Rattle.sls_base.specs.declared.fixed.TheConstants.{SCHEDULER};
 ghost use Rattle.link_lists.specs.Lists.{list_at, IsFree};
 ghost use Rattle.kobj_table.specs.Slots.{is_scheduler};
@@ -14,6 +14,19 @@ use kobj_codec::Obj;
 use kobj_table::{Cores, Objects, Slot};
 use mem_space::{Memory, Space};
 use sls_base::{OBJECTS, ObjId};
+
+/// Whether no thread of a record's list is in a list of the table, so that the record may be put back.
+pub fn has_free_threads(objects: &Objects, obj: &Obj) -> bool
+    requires { IsList (records.threads_of obj.now) }
+    ensures { IsTrue result ↔ All (IsFree objects.now.links) (records.threads_of obj.now) }
+{
+    for thread in threads_of(obj) {
+        if objects.links.is_linked(*thread as usize) {
+            return false;
+        }
+    }
+    true
+}
 
 /// Puts the object of a record at a number, in the place of what stood there, and its threads in the list of that
 /// number.
