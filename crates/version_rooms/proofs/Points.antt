@@ -1,7 +1,8 @@
 -- What a cut may leave of fixed words, of pages of which some are left out, and of numbers told another way.
-use Rattle.std.specs.Prelude.{◌≡◌, ℕ, Option}
+use Rattle.std.specs.Prelude.{◌≡◌, ◌<◌, ℕ, Option}
 use Rattle.std.proofs.Common.{◌∙◌, sym, subst, inl, inr}
 use Rattle.sls_base.specs.declared.fixed.TheConstants.{LEADER}
+use Rattle.sls_base.specs.declared.limits.TheConstants.{PAGES}
 use Rattle.pmem_model.specs.Words.{Word}
 use Rattle.pmem_model.specs.Events.{WordIs, Clean, Left}
 use Rattle.pmem_layout.specs.declared.places.TheConstants.{FORMAT_AT}
@@ -28,5 +29,5 @@ is_kept words next now (inr none) is = subst (λ (content : Option (ℕ → ℕ)
 page_kept : {words : ℕ → ℕ} {v page : ℕ} {next now : Option (ℕ → ℕ)} → IsKept next now → PageStands words v page now → PageStands words v page next
 page_kept kept h = record { slot = λ slot has. is_kept _ _ _ kept (h.slot slot has); runtime = λ none. is_kept _ _ _ kept (h.runtime none) }
 
-pub pages_kept : {words : ℕ → ℕ} {v : ℕ} {next now : ℕ → Option (ℕ → ℕ)} → ((page : ℕ) → IsKept (next page) (now page)) → PagesStand words v now → PagesStand words v next
-pages_kept kept h = record { each = λ page lt. page_kept (kept page) (h.each page lt) }
+pub pages_kept : {words : ℕ → ℕ} {v : ℕ} {next now : ℕ → Option (ℕ → ℕ)} → ((page : ℕ) → page < PAGES → IsKept (next page) (now page)) → PagesStand words v now → PagesStand words v next
+pages_kept kept h = record { each = λ page lt. page_kept (kept page lt) (h.each page lt) }

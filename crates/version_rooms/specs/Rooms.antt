@@ -77,7 +77,7 @@ pub record IsReady (r : Rooms) (v : ℕ) (c : Contents) (next : Parts) : Type 0 
   pub objects : next.objects ≡ c.objects
   pub settled : AllSettled r.roots c.saved.objects c.objects
   pub flushed : (page : ℕ) → page < PAGES → IsFlushed (stage_of r.pages page)
-  pub pages : (page : ℕ) → IsKept (next.pages page) (c.pages page)
+  pub pages : (page : ℕ) → page < PAGES → IsKept (next.pages page) (c.pages page)
 
 -- No commit is under way, or that of a version that is written whole.
 abbrev pub MayCommit : Rooms → ℕ → Contents → Parts → Phase → Type 0

@@ -27,7 +27,7 @@ returns-clause-shows c = λ f v cont next ready keep clean after.
             (subst (λ (w : Work). NumbersShow w f (v + 1) (has r.numbers.work.logged)) (sym work) (c.commits.ensures.shows r.numbers.work f v cont.saved.numbers ready.logged keep.numbers));
         objects = subst (λ (objects : ℕ → Option Obj). ObjectsShow c.committed.new.self f (v + 1) objects after) (sym ready.objects)
             (c.committed.ensures.shows f v cont.saved.objects cont.objects after ready.tagged ready.settled keep.objects);
-        pages = c.saved_pages_may_be_fewer.ensures c.committed-2.new.self f (v + 1) cont.pages cont.pages next.pages Open (λ page lt. ready.pages page)
+        pages = c.saved_pages_may_be_fewer.ensures c.committed-2.new.self f (v + 1) cont.pages cont.pages next.pages Open ready.pages
             (subst (λ (n : ℕ). PagesShow c.committed-2.new.self f n cont.pages cont.pages Open) at pages);
       };
     }
