@@ -6,3 +6,4 @@ pub mod Ranged
 pub mod Recorded
 pub mod Apart
 pub mod Marking
+pub mod Untold

@@ -16,6 +16,7 @@ ghost use Rattle.kobj_codec.specs.declared.obj.Obj.{Obj};
 ghost use Rattle.kobj_codec.specs.Objects.{IsObj, IsList};
 ghost use Rattle.object_records.specs.Records.{record_of, record_at, slot_of, threads_of, HasOwnThreads, HasOwnLists, object_of_record, object_in, list_in, is_scheduler_in, state_of_records, SameBytes};
 ghost use Rattle.object_records.specs.Ranges.{IsCores, IsSoundState, IsUntoldInRange, AreUntoldInRange};
+ghost use Rattle.object_records.specs.Untold.{IsUntoldKept, KeepsUntold, IsToldSame};
 
 /// A record tells the slot that it is of, and its list, where no list has threads but those of connections, of
 /// notifications and of schedulers. Each record is that of some slot and list.
@@ -77,6 +78,25 @@ pub fn untold_stays_in_range()
         → IsCores (record c { running = slice_set c.running core running }) }
     ensures others { (o : Objects) (rest : Rest) (i : ℕ) → HasFixedObjects (state_of o rest)
         → FIRST_PROGRAM_OBJECT ≤ i → IsUntoldInRange (slot_at o i) }
+{}
+
+/// What no plain state tells is left alone where nothing changes, and by one change after another; and then it stays in
+/// range.
+pub fn untold_is_left_alone()
+    ensures same { (slot : Slot) → IsUntoldKept slot slot }
+    ensures joined { (a b c : Slot) → IsUntoldKept a b → IsUntoldKept b c → IsUntoldKept a c }
+    ensures in_range { (old new : Objects) → KeepsUntold old new → AreUntoldInRange old → AreUntoldInRange new }
+{}
+
+/// What the plain machine tells of a number, and what no plain state tells of it, are all that its record says. So where
+/// the first is the same and the second was left alone, the record is the same.
+pub fn told_and_untold_are_all()
+    ensures slot { (before after : ℕ → ℕ → ℕ) (old new : Objects) (i : ℕ)
+        → IsUntoldKept (slot_at old i) (slot_at new i) → IsToldSame before after old new i
+        → slot_at new i ≡ slot_at old i }
+    ensures record { (before after : ℕ → ℕ → ℕ) (old new : Objects) (i : ℕ)
+        → IsUntoldKept (slot_at old i) (slot_at new i) → IsToldSame before after old new i
+        → record_at new i ≡ record_at old i }
 {}
 
 /// Records that stand for a state in which each thread is in one place have it in one list at most, and the scheduler's
