@@ -31,8 +31,8 @@ pub record KeepsCores (old new : Cores) : Type 0 where
       → slice_index_or new.running core None ≡ slice_index_or old.running core None
 
 -- What of a slot no plain state tells is left alone. A memory object is the one that stood there, with the marks of its
--- pages; or nothing stood there, and all its pages are fresh. A ring or a scheduler stood there, and is the same but for
--- what is told elsewhere: the entries counted, and what the cores run. An object stays.
+-- pages; or nothing stood there, and all its pages are fresh. A ring or a scheduler stood there, and is the same but
+-- for what is told elsewhere: the entries counted, and what the cores run. An object stays.
 abbrev pub IsUntoldKept : Slot → Slot → Type 0
 IsUntoldKept old slots.Empty = old ≡ slots.Empty
 IsUntoldKept old (slots.Memory memory) =

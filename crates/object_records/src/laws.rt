@@ -88,8 +88,8 @@ pub fn untold_is_left_alone()
     ensures in_range { (old new : Objects) → KeepsUntold old new → AreUntoldInRange old → AreUntoldInRange new }
 {}
 
-/// What the plain machine tells of a number, and what no plain state tells of it, are all that its record says. So where
-/// the first is the same and the second was left alone, the record is the same.
+/// What the plain machine tells of a number, and what no plain state tells of it, are all that its record says. So
+/// where the first is the same and the second was left alone, the record is the same.
 pub fn told_and_untold_are_all()
     ensures slot { (before after : ℕ → ℕ → ℕ) (old new : Objects) (i : ℕ)
         → IsUntoldKept (slot_at old i) (slot_at new i) → IsToldSame before after old new i
