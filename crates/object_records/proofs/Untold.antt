@@ -225,7 +225,7 @@ scheduler_same old new kept told =
     ap (λ (n : ℕ). Slot.Scheduler (cores_with n new.running)) kept.cores ∙ ap (λ (l : List (Option (ℕ × ℕ))). Slot.Scheduler (cores_with old.cores l)) running
 
 same_slot : (before after : ℕ → ℕ → ℕ) (old new : Slot) (threads threads' : List ℕ) → IsUntoldKept old new → object_of after new threads' ≡ object_of before old threads →
-    count_in new ≡ count_in old → cores_of new ≡ cores_of old → new ≡ old
+    ((ring : Ring) → new ≡ Slot.Ring ring → ring.count ≡ count_in old) → (is_scheduler new ≡ true → cores_of new ≡ cores_of old) → new ≡ old
 same_slot before after old Slot.Empty threads threads' kept same count cores = sym kept
 same_slot before after old (Slot.Group group) threads threads' kept same count cores = told_same before old (Slot.Group group) threads _ (group_back group) (λ none. cc) same
 same_slot before after old (Slot.Thread thread) threads threads' kept same count cores = told_same before old (Slot.Thread thread) threads (Some (plain.Thread thread)) refl (λ none. cc) same
@@ -237,8 +237,8 @@ same_slot before after old (Slot.Connection c) threads threads' kept same count 
     told_same before old (Slot.Connection c) threads (Some (plain.Connection c.server c.client threads')) refl (λ none. cc) same
 same_slot before after old (Slot.Notification note) threads threads' kept same count cores =
     told_same before old (Slot.Notification note) threads (Some (plain.Notification note.count threads')) refl (λ none. cc) same
-same_slot before after old (Slot.Ring ring) threads threads' kept same count cores = ring_same kept.0 ring kept.2 (count ∙ ap count_in kept.1) ∙ sym kept.1
-same_slot before after old (Slot.Scheduler c) threads threads' kept same count cores = scheduler_same kept.0 c kept.2 (cores ∙ ap cores_of kept.1) ∙ sym kept.1
+same_slot before after old (Slot.Ring ring) threads threads' kept same count cores = ring_same kept.0 ring kept.2 (count ring refl ∙ ap count_in kept.1) ∙ sym kept.1
+same_slot before after old (Slot.Scheduler c) threads threads' kept same count cores = scheduler_same kept.0 c kept.2 (cores refl ∙ ap cores_of kept.1) ∙ sym kept.1
 
 pub slots_same : (before after : ℕ → ℕ → ℕ) (old new : Objects) (i : ℕ) → IsUntoldKept (slot_at old i) (slot_at new i) → IsToldSame before after old new i → slot_at new i ≡ slot_at old i
 slots_same before after old new i kept told = same_slot before after (slot_at old i) (slot_at new i) (list_at old.links i) (list_at new.links i) kept told.object told.count told.cores

@@ -52,10 +52,10 @@ abbrev pub count_in : Slot → ℕ
 count_in (slots.Ring ring) = ring.count
 count_in slot = 0
 
--- What the plain machine tells of a number is the same: the object, the entries that a ring counts, and of a scheduler
--- what its cores run and the run queue.
+-- What the plain machine tells of a number is the same: the object, of a ring the entries that it counts, and of a
+-- scheduler what its cores run and the run queue.
 pub record IsToldSame (before after : ℕ → ℕ → ℕ) (old new : Objects) (i : ℕ) : Type 0 where
   pub object : object_at after new i ≡ object_at before old i
-  pub count : count_in (slot_at new i) ≡ count_in (slot_at old i)
-  pub cores : cores_of (slot_at new i) ≡ cores_of (slot_at old i)
+  pub count : (ring : Ring) → slot_at new i ≡ slots.Ring ring → ring.count ≡ count_in (slot_at old i)
+  pub cores : is_scheduler (slot_at new i) ≡ true → cores_of (slot_at new i) ≡ cores_of (slot_at old i)
   pub queue : is_scheduler (slot_at new i) ≡ true → list_at new.links i ≡ list_at old.links i
