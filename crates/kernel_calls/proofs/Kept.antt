@@ -1,17 +1,13 @@
--- What a call keeps: each ring, and where it changes nothing all else.
+-- What a call keeps: each ring.
 use Rattle.std.specs.Prelude.{◌≡◌, ℕ, ◌==◌, Bool, true, false, List, Option, Some, None, slice_index_or}
 use Rattle.std.specs.Option.{IfSome, IfNone}
 use Rattle.std.proofs.Common.{refl, sym, ap, ◌∙◌}
 use Rattle.std.proofs.lemmas.Bool.{eqb-true, eqb-false}
 use Rattle.sls_base.specs.declared.thread.Ring.{Ring}
 use Rattle.sls_base.specs.declared.thread.Thread.{Thread as ThreadRecord}
-use Rattle.link_lists.specs.Lists.{IsFree}
 use Rattle.kobj_table.specs.declared.objects.Objects.{Objects}
 use Rattle.kobj_table.specs.declared.slot.Slot.{Slot}
-use Rattle.kobj_table.specs.Objects.{slot_at, Puts, HasNoStrays}
-use Rattle.kernel_calls.specs.declared.runtime.Runtime.{Runtime}
-use Rattle.kernel_calls.specs.declared.done.Done.{Done}
-use Rattle.kernel_calls.specs.Does.{Keeps}
+use Rattle.kobj_table.specs.Objects.{slot_at, Puts}
 
 -- each ring was there before, as it is
 abbrev pub KeepsRings : Objects → Objects → Type 0
@@ -34,7 +30,3 @@ rings_put {o} {n} {id} {slot} p other i ring is = put_by o n id slot p other i r
 pub rings_lent : (o n : Objects) (lent : Option ℕ) (thread : ThreadRecord) → IfSome lent (λ id. Puts o n id (Slot.Thread thread)) → IfNone lent (n ≡ o) → KeepsRings o n
 rings_lent o n None thread put same = rings_same o n (ap (λ (x : Objects). x.slots) same)
 rings_lent o n (Some id) thread put same = rings_put put (λ ring is. cc)
-
--- where nothing changes, all is kept
-pub keeps_quiet : (k : Runtime) (me : ℕ) (done : Done) → HasNoStrays k.objects → IsFree k.objects.links me → Keeps k k me done
-keeps_quiet k me done strays free = record { caller = refl; strays = strays; free = λ left back. free; rings = λ id ring is. is }

@@ -21,6 +21,9 @@ pub mod Settled
 pub mod Begun
 pub mod Sound
 pub mod Kept
+pub mod Untold
+pub mod JustSaved
+pub mod Unchanged
 pub mod Touched
 pub mod Shown
 pub mod Needed

@@ -1,6 +1,6 @@
 -- What a put comes to.
 use Rattle.std.specs.Prelude.{◌≡◌, ◌≢◌, ℕ, ◌+◌, ◌^◌, ◌-◌, ◌/◌, ◌<◌, ◌≤◌, ◌==◌, nat_le, min, Bool, true, false, List, length, map, Contains, Option, Some, None}
-use Rattle.std.proofs.Common.{refl, ap, sym, subst, ◌∙◌, arith}
+use Rattle.std.proofs.Common.{refl, ap, sym, subst, ◌∙◌, arith, inr}
 use Rattle.std.proofs.lemmas.Bool.{and_parts, eq-eqb, eqb-false, eqb-true, leb-true, ne_eqb}
 use Rattle.std.proofs.lemmas.List.{length_push, length-map}
 use Rattle.sls_base.specs.declared.limits.TheConstants.{ENTRY_BYTES, FRAME_WORDS, OUTPUT_CHANNELS, RING_ENTRIES}
@@ -43,7 +43,9 @@ use Rattle.kernel_calls.specs.Does.{Leaves, Obeys, Tells}
 use Rattle.kernel_calls.proofs.Unrefused.{MeetsNeeds, MeetsBesides, met_by, not_false, or_false}
 use Rattle.kernel_calls.proofs.Objects.{put_gives, same_given, told}
 use Rattle.kernel_calls.proofs.Frames.{no_more, not_scheduler}
+use Rattle.object_records.specs.Untold.{IsUntoldKept, KeepsRing}
 use Rattle.kernel_calls.proofs.Contents.{counted_again}
+use Rattle.kernel_calls.proofs.Untold.{put_kept}
 
 -- The ring that is named.
 
@@ -303,15 +305,20 @@ put_on s thread channel is = rw is (eq-eqb (page_of_channel channel) (page_of_ch
 pub place_within : (number : ℕ) → entry_at number / 8 + 8 ≤ FRAME_WORDS
 place_within number = omega arith
 
+-- a ring that counts one entry more
+pub one_more_kept : (ring : Ring) → ring.channel < OUTPUT_CHANNELS → ring.count + 1 < 2 ^ 64 → KeepsRing ring (with_one_more ring)
+one_more_kept ring output fits = record { channel = refl; fresh = refl; page = refl; count = inr (output, omega arith, fits) }
+
 -- The caller is no ring, and is in no list.
 pub put_leaves : (k k' : Runtime) (me id : ℕ) (thread : ThreadRecord) (ring : Ring) (slot : Slot) (done : Done) → IsCaller k.objects me thread → slot_at k.objects id ≡ Slot.Ring ring →
-    Puts k.objects k'.objects id slot → HasNoStrays k'.objects → Leaves k k' me done
-put_leaves k k' me id thread ring slot done caller there puts strays = record {
+    Puts k.objects k'.objects id slot → HasNoStrays k'.objects → IsUntoldKept (slot_at k.objects id) slot → Leaves k k' me done
+put_leaves k k' me id thread ring slot done caller there puts strays untold = record {
   caller = puts.others me (λ same.
       let clash : Slot.Thread thread ≡ Slot.Ring ring = sym caller.there ∙ ap (λ (i : ℕ). slot_at k.objects i) same ∙ there in
       absurd (cc));
   strays = strays;
   free = λ left back. rw puts.links caller.free;
+  untold = put_kept puts refl untold;
 }
 
 -- no list of a ring has threads

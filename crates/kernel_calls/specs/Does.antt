@@ -18,6 +18,7 @@ use Rattle.plain_state.specs.Ticks.{with_changes, with_output, at_slice_end}
 use Rattle.sls_base.specs.declared.thread.Ring.{Ring}
 use Rattle.kobj_table.specs.declared.slot.Slot.{Slot}
 use Rattle.kobj_table.specs.Objects.{Rest, slot_at, object_at, HasNoStrays}
+use Rattle.object_records.specs.Untold.{KeepsUntold}
 use Rattle.pmem_model.specs.Memory.{Memory}
 use Rattle.call_readings.specs.Content.{Reads}
 use Rattle.call_readings.specs.Kernel.{world_of, CountsEntries, IsCounted}
@@ -78,17 +79,19 @@ DoesCall old new me thread call done =
     → Does old new rest w (effect_of_call (world_of old.objects rest w) me thread call) done
 
 -- No list but the run queue and those of objects has threads. The caller stands at its number as it was, and is in no
--- list where it goes to the queue's back.
+-- list where it goes to the queue's back. What no plain state tells is left alone.
 pub record Leaves (old new : Runtime) (me : ℕ) (done : Done) : Type 0 where
   pub caller : slot_at new.objects me ≡ slot_at old.objects me
   pub strays : HasNoStrays new.objects
   pub free : (left : ℕ) → at_slice_end left done.goes ≡ Back → IsFree new.objects.links me
+  pub untold : KeepsUntold old.objects new.objects
 
 -- And each ring was there before, as it is.
 pub record Keeps (old new : Runtime) (me : ℕ) (done : Done) : Type 0 where
   pub caller : slot_at new.objects me ≡ slot_at old.objects me
   pub strays : HasNoStrays new.objects
   pub free : (left : ℕ) → at_slice_end left done.goes ≡ Back → IsFree new.objects.links me
+  pub untold : KeepsUntold old.objects new.objects
   pub rings : (id : ℕ) (ring : Ring) → slot_at new.objects id ≡ Slot.Ring ring → slot_at old.objects id ≡ Slot.Ring ring
 
 -- An object came to stand at the least number that is free, and the caller's own group has a capability to it. Its

@@ -10,6 +10,7 @@ use Rattle.plain_laws.specs.Places.{IsPlaced}
 use Rattle.plain_laws.specs.Laws.{AreInRange}
 use Rattle.plain_laws.specs.Sound.{HaveForms, NameWhatIs}
 use Rattle.plain_laws.specs.Whole as whole
+use Rattle.kobj_table.specs.declared.objects.Objects.{Objects}
 use Rattle.kobj_table.specs.Slots.{is_scheduler}
 use Rattle.kobj_table.specs.Objects.{Rest, slot_at, state_of, HasNoStrays}
 use Rattle.call_readings.specs.declared.devices.Devices.{Devices}
@@ -63,6 +64,20 @@ pub record Holds (k : Calls) (accepted : List ℕ) (m : Memory) (rest : Rest) (w
   pub entries : EntriesStand rest.content w rest.out
   pub scheduler : is_scheduler (slot_at k.runtime.objects SCHEDULER) ≡ true
   pub strays : HasNoStrays k.runtime.objects
+
+-- Objects, with these inputs waiting, are a world's that was just saved: all of that but for the numbers in use, and
+-- the saved copy has the same objects as the running state.
+pub record IsJustSaved (o : Objects) (waiting : List (List ℕ)) (accepted : List ℕ) (m : Memory) (rest : Rest)
+    (w : World) : Type 0 where
+  pub now : w.now ≡ state_of o rest
+  pub saved : (id : ℕ) → w.saved.objects id ≡ w.now.objects id
+  pub sound : whole.IsSound w
+  pub attached : IsAttached o (devices_of accepted waiting) w
+  pub inputs : waiting ≡ rest.inputs
+  pub content : Reads rest.content m
+  pub entries : EntriesStand rest.content w rest.out
+  pub scheduler : is_scheduler (slot_at o SCHEDULER) ≡ true
+  pub strays : HasNoStrays o
 
 -- some world is the kernel's
 pub record IsHeld (k : Calls) (accepted : List ℕ) (m : Memory) : Type 0 where

@@ -6,3 +6,4 @@ pub mod Pages
 pub mod Instructions
 pub mod Needed
 pub mod Moves
+pub mod Lending

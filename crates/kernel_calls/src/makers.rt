@@ -11,6 +11,7 @@ ghost use Rattle.sls_base.specs.declared.thread.Ring.{Ring};
 ghost use Rattle.kobj_table.specs.Objects.{Rest, state_of};
 ghost use Rattle.plain_state.specs.CallEffects as plain;
 ghost use Rattle.kobj_table.specs.Slots.{object_of};
+ghost use Rattle.object_records.specs.Untold.{IsUntoldKept};
 ghost use Rattle.call_readings.specs.Kernel.{world_of, IsCounted};
 ghost use Rattle.kernel_calls.specs.Kernel.{Allowed, Held};
 ghost use Rattle.kernel_calls.specs.Callers.{IsCaller};
@@ -27,9 +28,11 @@ use plain_state::{ANSWER, arg};
 use sls_base::{ALL_RIGHTS, OBJECTS, ObjId, REGISTERS, Thread, ThreadState};
 
 impl Runtime {
-    /// Makes an object, which is no ring, and to which the caller gets a capability with all rights.
+    /// Makes an object, to which the caller gets a capability with all rights. It is one that a call can make: no ring,
+    /// and no memory object but of fresh pages.
     pub(crate) fn make(&mut self, me: ObjId, thread: &Thread, slot: Slot) -> Done
-        requires { (ring : Ring) → slot ≢ Slot.Ring ring }
+        requires ring { (ring : Ring) → slot ≢ Slot.Ring ring }
+        requires untold { IsUntoldKept Slot.Empty slot }
         ensures makes { (w : World) (rest : Rest) (object : Object)
             → IsCounted self.old.numbers (world_of self.old.objects rest w)
             → no_room (world_of self.old.objects rest w) thread.now Refusal.NoSlot ≡ false

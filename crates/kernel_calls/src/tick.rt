@@ -1,6 +1,6 @@
 //! Who runs on a core, and what becomes of it.
 
-ghost use Rattle.std.specs.Prelude.{◌≡◌, ◌≢◌, ◌<◌, if◌then◌else◌, true, false, length, Some, None, IfSome, IfNone, option_map};
+ghost use Rattle.std.specs.Prelude.{◌≡◌, ◌≢◌, ◌<◌, ℕ, if◌then◌else◌, true, false, length, Some, None, IfSome, IfNone, option_map};
 ghost use Rattle.link_lists.specs.Lists.{list_at, IsFree};
 ghost use Rattle.ipc_note.specs.declared.lists.TheConstants.{RUN_QUEUE};
 ghost use Rattle.plain_state.specs.Worlds.{World};
@@ -13,6 +13,7 @@ ghost use Rattle.plain_state.specs.Ticks as plain;
 ghost use Rattle.plain_state.specs.Ticks.{Chosen};
 ghost use Rattle.kobj_table.specs.Slots.{cores_of, has_list, is_scheduler, occupant_of};
 ghost use Rattle.kobj_table.specs.Objects.{Rest, slot_at, state_of, HasNoStrays};
+ghost use Rattle.object_records.specs.Untold.{KeepsUntold};
 ghost use Rattle.kernel_calls.specs.Kernel.{Held, Holds, IsHeld};
 ghost use Rattle.kernel_calls.specs.Callers.{IsCaller};
 ghost use Rattle.kernel_calls.specs.Instructions.{Finds, IsNow, StoresPages};
@@ -133,6 +134,8 @@ impl Runtime {
             (instruction (world_of self.old.objects rest w) next.0 thread.now)) nvm.old nvm.new }
         ensures scheduler { is_scheduler (slot_at self.new.objects SCHEDULER) ≡ true }
         ensures strays { HasNoStrays self.new.objects }
+        ensures untold { core < length (cores_of (slot_at self.old.objects SCHEDULER))
+            → KeepsUntold self.old.objects self.new.objects }
     {
         let (id, slice) = next;
         let done = self.obey(devices, input, nvm, id, thread);
@@ -153,6 +156,8 @@ impl Runtime {
         ensures made { self.new.made ≡ self.old.made }
         ensures strays { HasNoStrays self.old.objects → has_list (slot_at self.old.objects id) ≡ false
             → HasNoStrays self.new.objects }
+        ensures untold { core < length (cores_of (slot_at self.old.objects SCHEDULER))
+            → KeepsUntold self.old.objects self.new.objects }
     {
         let goes = at_slice_end(left, done.goes);
         self.objects.set_thread(
@@ -188,6 +193,13 @@ impl Calls {
             → result ≡ plain.tick_reply w core }
         ensures words { (w : World) (rest : Rest) → Holds self.old accepted.now nvm.old rest w
             → StoresPages (plain.must_store w core) nvm.old nvm.new }
+        // What no plain state tells of the objects is left alone, and of one that the tick makes it is as made.
+        ensures untold { KeepsUntold self.old.runtime.objects self.new.runtime.objects }
+        // What the plain machine's tick doesn't change has its slot and its list as before.
+        ensures unchanged { (w : World) (rest : Rest) (i : ℕ) → Holds self.old accepted.now nvm.old rest w
+            → (plain.tick w core).changed i ≡ false
+            → (slot_at self.new.runtime.objects i ≡ slot_at self.old.runtime.objects i)
+            × (list_at self.new.runtime.objects.links i ≡ list_at self.old.runtime.objects.links i) }
     {
         // Their contracts say that neither objects nor what an instruction does depend on the run queue, and that a
         // tick keeps a world sound; and that an instruction whose tick is prepared has its pages.

@@ -1,9 +1,16 @@
-use Rattle.std.proofs.Common.{refl, ◌∙◌, sym, ap, subst, []}
-use Rattle.std.specs.Prelude.{ℕ, Bool, List, slice_index_or}
+use Rattle.std.proofs.Common.{refl, ◌∙◌, ◌<◌, sym, ap, subst, []}
+use Rattle.std.specs.Prelude.{ℕ, Bool, List, length, slice_index_or}
+use Rattle.sls_base.specs.declared.fixed.TheConstants.{SCHEDULER}
 use Rattle.sls_base.specs.declared.thread.Thread.{Thread as ThreadRecord}
 use Rattle.plain_state.specs.States.{State}
 use Rattle.plain_state.specs.Worlds.{World}
-use Rattle.plain_state.specs.Ticks.{tick, tick_reply, must_store}
+use Rattle.plain_state.specs.Ticks.{chosen, tick, tick_reply, must_store}
+use Rattle.link_lists.specs.Lists.{list_at}
+use Rattle.kobj_table.specs.declared.objects.Objects.{Objects}
+use Rattle.kobj_table.specs.declared.slot.Slot.{Slot}
+use Rattle.kobj_table.specs.Slots.{cores_of}
+use Rattle.kobj_table.specs.Objects.{slot_at}
+use Rattle.object_records.specs.Untold.{KeepsUntold}
 use Rattle.call_readings.specs.declared.devices.Devices.{Devices}
 use Rattle.kernel_calls.specs.declared.calls.Calls.{Calls}
 use Rattle.kernel_calls.specs.Kernel.{devices_of}
@@ -14,6 +21,8 @@ use Rattle.kernel_calls.proofs.Sound.{its_world, is_held_over, inputs_left, hold
 use Rattle.kernel_calls.proofs.Found.{finds_taken}
 use Rattle.kernel_calls.proofs.Prepared.{prepared_may_run}
 use Rattle.kernel_calls.proofs.StoredPages.{none_stored}
+use Rattle.kernel_calls.proofs.Untold.{all_kept, same_slot, slots_before}
+use Rattle.kernel_calls.proofs.Unchanged.{list_unchanged, slot_unchanged}
 use Rattle.kernel_calls.proofs.calls.Calls.tick.Goals as goal
 
 pub take_next-requires-clause-held : goal.take_next-requires-clause-held
@@ -114,3 +123,40 @@ returns-clause-words c w rest h =
     tick_stores k.runtime.objects t.objects core id slice takes h.scheduler alone rest c.thread_or_zeros-thread.result (c.thread_or_zeros-thread.ensures rest) c.effect_depends_on_little.ensures w
     ∙ ap (λ (v : World). must_store v core) (its_world k accepted c.args.nvm.now rest w h) in
     subst (λ (test : ℕ → Bool). StoresPages test c.args.nvm.now c.run_instruction-done.new.nvm) stores (c.run_instruction-done.ensures.words w rest finds)
+
+-- What no plain state tells.
+
+pub returns-in_default-clause-untold : goal.returns-in_default-clause-untold
+returns-in_default-clause-untold c =
+    let o = c.args.self.now.runtime.objects in
+    subst (λ (n : Objects). KeepsUntold o n) (sym c.in_default.ensures.idle) (all_kept o)
+
+pub returns-clause-untold : goal.returns-clause-untold
+returns-clause-untold c =
+    let o = c.args.self.now.runtime.objects in
+    let t = c.take_next.new.self.objects in
+    let same = c.in-Some.ensures.some.slots in
+    let below = subst (λ (s : Slot). c.args.core < length (cores_of s)) (sym (same_slot o t SCHEDULER same)) c.requires.core in
+    slots_before same (c.run_instruction-done.ensures.untold below)
+
+-- What the plain machine's tick doesn't change.
+
+pub returns-in_default-clause-unchanged : goal.returns-in_default-clause-unchanged
+returns-in_default-clause-unchanged c w rest i h unchanged =
+    let same = c.in_default.ensures.idle in
+    (ap (λ (o : Objects). slot_at o i) same, ap (λ (o : Objects). list_at o.links i) same)
+
+pub returns-clause-unchanged : goal.returns-clause-unchanged
+returns-clause-unchanged c w rest i h unchanged =
+    let k = c.args.self.now in
+    let n : Calls = record { runtime = c.run_instruction-done.new.self; inputs = c.take_first_if.new.self } in
+    let accepted = c.args.accepted.now in
+    let old = c.args.nvm.now in
+    let new = c.run_instruction-done.new.nvm in
+    let core = c.args.core in
+    let is = ap (λ (s : State). chosen s core) h.now ∙ c.in-Some.ensures.some.chosen_is rest in
+    let next = returns-clause-holds c w rest h in
+    let kept = returns-clause-untold c in (
+      slot_unchanged k n accepted old new rest next.0 w core _ is h next.1 kept i unchanged,
+      list_unchanged k n accepted old new rest next.0 w core _ is h next.1 kept i unchanged,
+    )

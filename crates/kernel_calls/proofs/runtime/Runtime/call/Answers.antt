@@ -24,7 +24,9 @@ use Rattle.kernel_calls.proofs.Places.{free_unlisted, asleep_unlisted}
 use Rattle.kernel_calls.proofs.Queues.{relisted, strays_moved}
 use Rattle.kernel_calls.proofs.Threads.{apart, caller_waits, not_back}
 use Rattle.kernel_calls.proofs.Connections.{serving_is, not_serving, not_server, call_wakes, call_joins}
+use Rattle.object_records.specs.Untold.{KeepsUntold}
 use Rattle.kernel_calls.proofs.Kept.{KeepsRings, rings_put}
+use Rattle.kernel_calls.proofs.Untold.{keeps_same, put_kept, put_next}
 use Rattle.kernel_calls.proofs.runtime.Runtime.call.Goals as goal
 
 pub returns-in_default-clause-does : goal.returns-in_default-clause-does
@@ -120,6 +122,7 @@ returns-clause-keeps c =
     let other : server ≢ c.args.me = not_server c.args.me server c.in-Some.connection.client (list_at o.links id) (rw slot_is at free) in
     let server_apart : server ≢ id = λ same. (let t : slot_at o id ≡ Slot.Thread c.in-Some-thread.server = rw (sym same) server_is in let f = slot_is in cc) in
     let there : slot_at c.put.new.self server ≡ Slot.Thread c.in-Some-thread.server = puts.others server server_apart ∙ server_is in
+    let untold : KeepsUntold o c.set_thread.new.self = put_next (put_kept puts refl tt) c.set_thread.ensures.puts tt in
     let rings : KeepsRings o c.set_thread.new.self =
     λ i ring is. rings_put puts (λ other same. cc) i ring (rings_put c.set_thread.ensures.puts (λ other same. cc) i ring is) in
     elim (cases_Bool (is_serving c.in-Some-thread.server.state id)) [
@@ -131,6 +134,7 @@ returns-clause-keeps c =
             caller = c.set_thread.ensures.puts.others c.args.me (λ same. other (sym same)) ∙ puts.others c.args.me (apart o c.args.me id (rw c.requires.caller.there refl) (rw slot_is refl));
             strays = c.set_thread.ensures.strays strays (λ not_queue no_list. strays server not_queue (rw there refl));
             free = λ left back. absurd (not_back thread _ (Served id) left c.of_caller.ensures (c.call.ensures.served other is) refl back);
+            untold = untold;
             rings = rings;
           })
       | inr busy ↦
@@ -141,6 +145,13 @@ returns-clause-keeps c =
             caller = c.set_thread.ensures.puts.others c.args.me (λ same. other (sym same)) ∙ puts.others c.args.me (apart o c.args.me id (rw c.requires.caller.there refl) (rw slot_is refl));
             strays = c.set_thread.ensures.strays strays (λ not_queue no_list. strays server not_queue (rw there refl));
             free = λ left back. absurd (not_back thread _ (Calling id) left c.of_caller.ensures (c.call.ensures.waits other not) refl back);
+            untold = untold;
             rings = rings;
           })
     ]
+
+pub returns-in_default-clause-keeps : goal.returns-in_default-clause-keeps
+returns-in_default-clause-keeps c = keeps_same c.args.self.now _ c.args.me _ refl c.requires.held.strays c.requires.caller.free
+
+pub returns-in_default-thread-clause-keeps : goal.returns-in_default-thread-clause-keeps
+returns-in_default-thread-clause-keeps c = keeps_same c.args.self.now _ c.args.me _ refl c.requires.held.strays c.requires.caller.free

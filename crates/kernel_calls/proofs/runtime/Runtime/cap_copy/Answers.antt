@@ -18,6 +18,7 @@ use Rattle.kernel_calls.proofs.Caps.{caps_of, not_full, all_held}
 use Rattle.kernel_calls.proofs.Groups.{copy_is}
 use Rattle.kernel_calls.proofs.Threads.{apart}
 use Rattle.kernel_calls.proofs.Kept.{rings_put}
+use Rattle.kernel_calls.proofs.Untold.{keeps_same, put_kept}
 use Rattle.kernel_calls.proofs.runtime.Runtime.cap_copy.Goals.{in_default-via-in-Some+in_default, in_default-via-in_default}
 use Rattle.kernel_calls.proofs.runtime.Runtime.cap_copy.Goals as goal
 
@@ -63,5 +64,12 @@ returns-clause-keeps c a =
       caller = c.put.ensures.puts.others c.args.me (apart c.args.self.now.objects c.args.me c.id_named-id.result (rw a.caller.there refl) (rw slot_is refl));
       strays = c.put.ensures.strays a.held.strays (λ other no_list. a.held.strays c.id_named-id.result other (rw slot_is refl));
       free = λ left back. rw c.put.ensures.puts.links a.caller.free;
+      untold = put_kept c.put.ensures.puts refl tt;
       rings = rings_put c.put.ensures.puts (λ ring same. cc);
     }
+
+pub returns-in_default-clause-keeps : goal.returns-in_default-clause-keeps
+returns-in_default-clause-keeps c a = keeps_same c.args.self.now _ c.args.me _ refl a.held.strays a.caller.free
+
+pub returns-in_default-lowest_free-clause-keeps : goal.returns-in_default-lowest_free-clause-keeps
+returns-in_default-lowest_free-clause-keeps c a = keeps_same c.args.self.now _ c.args.me _ refl a.held.strays a.caller.free

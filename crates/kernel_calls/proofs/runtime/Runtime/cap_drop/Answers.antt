@@ -12,6 +12,7 @@ use Rattle.kernel_calls.proofs.Caps.{caps_of}
 use Rattle.kernel_calls.proofs.Groups.{drop_is}
 use Rattle.kernel_calls.proofs.Threads.{apart}
 use Rattle.kernel_calls.proofs.Kept.{rings_put}
+use Rattle.kernel_calls.proofs.Untold.{keeps_same, put_kept}
 use Rattle.kernel_calls.proofs.runtime.Runtime.cap_drop.Goals as goal
 
 pub returns-in_default-clause-does : goal.returns-in_default-clause-does
@@ -42,5 +43,9 @@ returns-clause-keeps c a =
       caller = c.put.ensures.puts.others c.args.me (apart c.args.self.now.objects c.args.me c.id_named-id.result (rw a.caller.there refl) (rw slot_is refl));
       strays = c.put.ensures.strays a.held.strays (λ other no_list. a.held.strays c.id_named-id.result other (rw slot_is refl));
       free = λ left back. rw c.put.ensures.puts.links a.caller.free;
+      untold = put_kept c.put.ensures.puts refl tt;
       rings = rings_put c.put.ensures.puts (λ ring same. cc);
     }
+
+pub returns-in_default-clause-keeps : goal.returns-in_default-clause-keeps
+returns-in_default-clause-keeps c a = keeps_same c.args.self.now _ c.args.me _ refl a.held.strays a.caller.free

@@ -1,6 +1,7 @@
 use Rattle.kernel_calls.specs.Kernel.{Allowed}
 use Rattle.kernel_calls.proofs.Obeyed.{moves_none, obeyed_quietly}
 use Rattle.kernel_calls.proofs.StoredPages.{none_stored}
+use Rattle.kernel_calls.proofs.Untold.{leaves_same}
 use Rattle.kernel_calls.proofs.runtime.Runtime.carry_out.Goals as goal
 
 -- A put.
@@ -46,4 +47,7 @@ returns-in_default-clause-words c w rest devices finds unrefused = none_stored _
 pub returns-in_default-clause-leaves : goal.returns-in_default-clause-leaves
 returns-in_default-clause-leaves c =
     let keeps = c.change_objects.ensures.keeps in
-    record { caller = keeps.caller; strays = keeps.strays; free = keeps.free }
+    record { caller = keeps.caller; strays = keeps.strays; free = keeps.free; untold = keeps.untold }
+
+pub returns-in-Get-clause-leaves : goal.returns-in-Get-clause-leaves
+returns-in-Get-clause-leaves c = leaves_same c.args.self.now c.args.me _ c.requires.may.over.held.strays c.requires.may.caller.free

@@ -5,6 +5,7 @@ use Rattle.kernel_calls.proofs.Frames.{unchanged}
 use Rattle.kernel_calls.proofs.Obeyed.{stopped, loaded, obeyed_quietly}
 use Rattle.kernel_calls.proofs.Storing.{store_obeyed, apart_always}
 use Rattle.kernel_calls.proofs.StoredPages.{none_stored}
+use Rattle.kernel_calls.proofs.Untold.{leaves_same}
 use Rattle.kernel_calls.proofs.runtime.Runtime.carry_out_plan.Goals as goal
 
 -- A register is set.
@@ -66,3 +67,15 @@ returns-in-Stop-clause-obeys c w rest finds =
 
 pub returns-in-Stop-clause-words : goal.returns-in-Stop-clause-words
 returns-in-Stop-clause-words c w rest finds = none_stored _ c.args.nvm.now
+
+pub returns-in-Set-clause-leaves : goal.returns-in-Set-clause-leaves
+returns-in-Set-clause-leaves c = leaves_same c.args.self.now c.args.me _ c.requires.may.over.held.strays c.requires.caller.free
+
+pub returns-in-Load-clause-leaves : goal.returns-in-Load-clause-leaves
+returns-in-Load-clause-leaves c = leaves_same c.args.self.now c.args.me _ c.requires.may.over.held.strays c.requires.caller.free
+
+pub returns-in-Store-clause-leaves : goal.returns-in-Store-clause-leaves
+returns-in-Store-clause-leaves c = leaves_same c.args.self.now c.args.me _ c.requires.may.over.held.strays c.requires.caller.free
+
+pub returns-in-Stop-clause-leaves : goal.returns-in-Stop-clause-leaves
+returns-in-Stop-clause-leaves c = leaves_same c.args.self.now c.args.me _ c.requires.may.over.held.strays c.requires.caller.free

@@ -11,6 +11,7 @@ use Rattle.call_readings.specs.Kernel.{world_of}
 use Rattle.kernel_calls.proofs.Groups.{place_known}
 use Rattle.kernel_calls.proofs.Unrefused.{not_false}
 use Rattle.kernel_calls.proofs.Frames.{unchanged}
+use Rattle.kernel_calls.proofs.Untold.{keeps_same}
 use Rattle.kernel_calls.proofs.runtime.Runtime.change_objects.Goals as goal
 
 pub returns-in-Yield-clause-does : goal.returns-in-Yield-clause-does
@@ -36,3 +37,18 @@ mem_new-requires c =
     let a = c.requires.allowed in
     let size = c.unrefused_call_meets_all.ensures.besides (world_of c.args.self.now.objects a.held.rest a.held.world) c.args.me c.args.thread.now MemNew BadSize (λ same. cc) (rw c.in-MemNew.is at a.unrefused) in
     leb-true _ MEMORY_PAGES (and_parts (nat_le 1 (arg c.args.thread.now 0)) (nat_le (arg c.args.thread.now 0) MEMORY_PAGES) (not_false (is_memory_size (arg c.args.thread.now 0)) size)).1
+
+pub returns-in-Yield-clause-keeps : goal.returns-in-Yield-clause-keeps
+returns-in-Yield-clause-keeps c =
+    let a = c.requires.allowed in
+    keeps_same c.args.self.now _ c.args.me _ refl a.held.strays a.caller.free
+
+pub returns-in-Halt-clause-keeps : goal.returns-in-Halt-clause-keeps
+returns-in-Halt-clause-keeps c =
+    let a = c.requires.allowed in
+    keeps_same c.args.self.now _ c.args.me _ refl a.held.strays a.caller.free
+
+pub returns-in-Checkpoint-clause-keeps : goal.returns-in-Checkpoint-clause-keeps
+returns-in-Checkpoint-clause-keeps c =
+    let a = c.requires.allowed in
+    keeps_same c.args.self.now _ c.args.me _ refl a.held.strays a.caller.free

@@ -5,6 +5,7 @@ use Rattle.plain_state.specs.CallRefusals.{refusal_of}
 use Rattle.call_readings.specs.Kernel.{world_of}
 use Rattle.kernel_calls.proofs.Obeyed.{answered_alone}
 use Rattle.kernel_calls.proofs.StoredPages.{none_stored}
+use Rattle.kernel_calls.proofs.Untold.{leaves_same}
 use Rattle.kernel_calls.proofs.runtime.Runtime.ecall.Goals as goal
 
 -- Where it names no call.
@@ -60,3 +61,9 @@ returns-in-None-clause-words c w rest finds =
     let unrefused : refusal_of (world_of c.args.self.now.objects rest w) c.args.me c.args.thread.now c.in-Some.call ≡ None =
     sym (c.refusal_of.ensures w rest finds.found.counted finds.found.attached) ∙ c.in-None.is in
     rw named (rw unrefused (c.carry_out.ensures.words w rest c.args.devices.now finds unrefused))
+
+pub returns-in_default-clause-leaves : goal.returns-in_default-clause-leaves
+returns-in_default-clause-leaves c = leaves_same c.args.self.now c.args.me _ c.requires.may.over.held.strays c.requires.caller.free
+
+pub returns-in-Some-refusal_of-clause-leaves : goal.returns-in-Some-refusal_of-clause-leaves
+returns-in-Some-refusal_of-clause-leaves c = leaves_same c.args.self.now c.args.me _ c.requires.may.over.held.strays c.requires.caller.free

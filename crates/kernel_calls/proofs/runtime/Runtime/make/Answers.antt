@@ -1,4 +1,4 @@
-use Rattle.std.proofs.Common.{◌≡◌, ◌≢◌, ◌∙◌, sym, ap, refl, ℕ, []}
+use Rattle.std.proofs.Common.{◌≡◌, ◌≢◌, ◌∙◌, sym, ap, refl, subst, ℕ, []}
 use Rattle.std.specs.Prelude.{Some, None, is_some}
 use Rattle.sls_base.specs.declared.fixed.TheConstants.{SCHEDULER}
 use Rattle.sls_base.specs.declared.rights.TheConstants.{ALL_RIGHTS}
@@ -12,6 +12,7 @@ use Rattle.plain_state.specs.Worlds.{free_objects}
 use Rattle.plain_state.specs.CallEffects.{with_cap, new_id}
 use Rattle.call_readings.specs.Kernel.{world_of}
 use Rattle.kernel_calls.specs.Kernel.{Held}
+use Rattle.object_records.specs.Untold.{IsUntoldKept}
 use Rattle.kernel_calls.proofs.Unrefused.{or_false}
 use Rattle.kernel_calls.proofs.Objects.{put_gives, both_given}
 use Rattle.kernel_calls.proofs.Frames.{not_scheduler, answered}
@@ -20,6 +21,7 @@ use Rattle.kernel_calls.proofs.Places.{free_unlisted, none_listed}
 use Rattle.kernel_calls.proofs.Made.{none_there, not_there, no_group, none_first, first_is}
 use Rattle.kernel_calls.proofs.Threads.{apart}
 use Rattle.kernel_calls.proofs.Kept.{rings_put}
+use Rattle.kernel_calls.proofs.Untold.{keeps_same, put_kept, put_next}
 use Rattle.kernel_calls.proofs.runtime.Runtime.make.Goals.{in_default-via-in-Some+in_default, in_default-via-in_default}
 use Rattle.kernel_calls.proofs.runtime.Runtime.make.Goals as goal
 
@@ -101,7 +103,8 @@ returns-clause-keeps c held caller =
           ∙ c.put.ensures.puts.others c.args.me (apart o c.args.me c.in-Some-Some.id (rw caller.there refl) (rw empty refl));
       strays = c.put-2.ensures.strays strays (λ other no_list. strays c.args.thread.now.group other (rw group_is refl));
       free = λ left back. rw (c.put-2.ensures.puts.links ∙ c.put.ensures.puts.links) caller.free;
-      rings = λ i ring is. rings_put c.put.ensures.puts c.requires i ring (rings_put c.put-2.ensures.puts (λ other same. cc) i ring is);
+      untold = put_next (put_kept c.put.ensures.puts refl (subst (λ (s : Slot). IsUntoldKept s c.args.slot) (sym empty) c.requires.untold)) c.put-2.ensures.puts tt;
+      rings = λ i ring is. rings_put c.put.ensures.puts c.requires.ring i ring (rings_put c.put-2.ensures.puts (λ other same. cc) i ring is);
     }
 
 pub returns-clause-fresh : goal.returns-clause-fresh
@@ -111,3 +114,9 @@ returns-clause-fresh c held caller =
     let free : IsFree o.links c.in-Some-Some.id = free_unlisted o held.rest held.sound.placed held.strays c.in-Some-Some.id (none_listed (object_at held.rest.content o) c.in-Some-Some.id (unused c held).0) in
     let other : c.in-Some-Some.id ≢ c.args.me = λ same. (let there = caller.there in let empty : slot_at o c.args.me ≡ Slot.Empty = ap (λ (i : ℕ). slot_at o i) (sym same) ∙ (unused c held).1 in cc) in
     (c.in-Some-Some.ensures.range, other, rw (c.put-2.ensures.puts.links ∙ c.put.ensures.puts.links) free)
+
+pub returns-in_default-clause-keeps : goal.returns-in_default-clause-keeps
+returns-in_default-clause-keeps c held caller = keeps_same c.args.self.now _ c.args.me _ refl held.strays caller.free
+
+pub returns-in_default-lowest_free-clause-keeps : goal.returns-in_default-lowest_free-clause-keeps
+returns-in_default-lowest_free-clause-keeps c held caller = keeps_same c.args.self.now _ c.args.me _ refl held.strays caller.free

@@ -15,6 +15,7 @@ use Rattle.kernel_calls.proofs.Frames.{changed, one_put, answered}
 use Rattle.kernel_calls.proofs.Spaces.{map_known, map_is, not_overlapping}
 use Rattle.kernel_calls.proofs.Threads.{apart}
 use Rattle.kernel_calls.proofs.Kept.{rings_put}
+use Rattle.kernel_calls.proofs.Untold.{keeps_same, put_kept}
 use Rattle.kernel_calls.proofs.runtime.Runtime.map.Goals as goal
 
 pub returns-in_default-clause-does : goal.returns-in_default-clause-does
@@ -91,5 +92,9 @@ returns-clause-keeps c = record {
   caller = c.map_region.ensures.puts.others c.args.me (apart c.args.self.now.objects c.args.me c.id_named-id.result (rw c.requires.caller.there refl) (rw c.in-Some.ensures.some refl));
   strays = c.map_region.ensures.strays c.requires.held.strays;
   free = λ left back. rw c.map_region.ensures.puts.links c.requires.caller.free;
+  untold = put_kept c.map_region.ensures.puts refl tt;
   rings = rings_put c.map_region.ensures.puts (λ ring same. cc);
 }
+
+pub returns-in_default-clause-keeps : goal.returns-in_default-clause-keeps
+returns-in_default-clause-keeps c = keeps_same c.args.self.now _ c.args.me _ refl c.requires.held.strays c.requires.caller.free

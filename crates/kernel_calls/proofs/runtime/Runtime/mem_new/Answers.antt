@@ -1,4 +1,4 @@
-use Rattle.std.proofs.Common.{◌≡◌, ◌∙◌, sym, ap, refl, ℕ, List, Bool}
+use Rattle.std.proofs.Common.{◌≡◌, ◌∙◌, sym, ap, refl, ℕ, List, Bool, inr}
 use Rattle.std.specs.Prelude.{◌||◌, not, filter, map, take, Some}
 use mathlib.Core.Path.{fun_ext}
 use Rattle.plain_state.specs.declared.calls.Call.TheVariants.{MemNew}
@@ -36,4 +36,7 @@ returns-clause-does c w rest h e a =
 pub returns-clause-keeps : goal.returns-clause-keeps
 returns-clause-keeps c a =
     let kept = c.make-done.ensures.keeps a.held a.caller in
-    record { caller = kept.caller; strays = kept.strays; free = kept.free; rings = kept.rings }
+    record { caller = kept.caller; strays = kept.strays; free = kept.free; untold = kept.untold; rings = kept.rings }
+
+pub make-done-requires-clause-untold : goal.make-done-requires-clause-untold
+make-done-requires-clause-untold c = inr (refl, c.take_memory-memory.ensures.fresh)

@@ -12,6 +12,7 @@ use Rattle.kernel_calls.specs.Does.{Obeys}
 use Rattle.kernel_calls.specs.Instructions.{StoresPages}
 use Rattle.kernel_calls.proofs.Obeyed.{stopped, obeyed_quietly, with_places, nothing_fetched, word_fetched, plan_fetched}
 use Rattle.kernel_calls.proofs.StoredPages.{none_stored}
+use Rattle.kernel_calls.proofs.Untold.{leaves_same}
 use Rattle.kernel_calls.proofs.runtime.Runtime.obey.Goals as goal
 
 -- Where nothing can be fetched.
@@ -90,3 +91,9 @@ returns-clause-words c w rest finds =
 pub fetch-requires-clause-aligned : goal.fetch-requires-clause-aligned
 unfolding state_of
 fetch-requires-clause-aligned c = (c.requires.may.over.found.found.threads c.args.me c.args.thread.now (rw c.requires.caller.there refl)).aligned
+
+pub returns-in_default-clause-leaves : goal.returns-in_default-clause-leaves
+returns-in_default-clause-leaves c = leaves_same c.args.self.now c.args.me _ c.requires.may.over.held.strays c.requires.caller.free
+
+pub returns-in_default-decode-clause-leaves : goal.returns-in_default-decode-clause-leaves
+returns-in_default-decode-clause-leaves c = leaves_same c.args.self.now c.args.me _ c.requires.may.over.held.strays c.requires.caller.free

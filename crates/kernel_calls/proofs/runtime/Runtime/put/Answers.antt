@@ -13,7 +13,8 @@ use Rattle.out_gate.specs.Entries.{with_entry}
 use Rattle.kernel_calls.specs.declared.runtime.Runtime.{Runtime}
 use Rattle.kernel_calls.proofs.Storing.{apart_always}
 use Rattle.kernel_calls.proofs.StoredPages.{burst_stored}
-use Rattle.kernel_calls.proofs.Putting.{can_put, given, left, nothing_seen, place_within, put_leaves, put_obeys, put_on, ring_strays, seen_by_args, seen_length, some_ring, still_waiting, with_one_more}
+use Rattle.kernel_calls.proofs.Putting.{can_put, given, left, nothing_seen, one_more_kept, place_within, put_leaves, put_obeys, put_on, ring_strays, seen_by_args, seen_length, some_ring, still_waiting, with_one_more}
+use Rattle.kernel_calls.proofs.Untold.{leaves_same}
 use Rattle.kernel_calls.proofs.runtime.Runtime.put.Goals as goal
 
 -- The ring is there.
@@ -143,11 +144,29 @@ returns-clause-words c input w rest devices finds unrefused =
     c.args.nvm.now c.place.new.nvm c.place.ensures.stores
 
 pub returns-clause-leaves : goal.returns-clause-leaves
+unfolding state_of
 returns-clause-leaves c =
     let may = c.requires.may.1 in
     let k = c.args.self.now in
     let id = c.id_named-id.result in
     let ring = c.in-Some.ring in
     let there = c.in-Some.ensures.some in
+    let held = may.over.held in
+    let can = can_put c.unrefused_call_meets_all.ensures.needs c.unrefused_call_meets_all.ensures.besides k.objects held.rest held.world c.args.me c.args.thread.now may.unrefused
+    id ring (c.id_named-id.ensures held.rest) there (may.over.found.found.attached.rings id) in
+    let count = can.count in
+    let more = can.more in
+    let most = may.over.found.room.count ring.channel in
     put_leaves k (record k { objects = c.put.new.self }) c.args.me id c.args.thread.now ring _ c.answers-2.result may.caller there c.put.ensures.puts
     (c.put.ensures.strays may.over.held.strays (ring_strays k.objects id ring (with_one_more ring) there may.over.held.strays))
+    (ring, there, one_more_kept ring can.output (omega (arith, count, more, most)))
+
+pub returns-in_default-clause-leaves : goal.returns-in_default-clause-leaves
+returns-in_default-clause-leaves c =
+    let may = c.requires.may.1 in
+    leaves_same c.args.self.now c.args.me _ may.over.held.strays may.caller.free
+
+pub returns-in_default-bytes_at-clause-leaves : goal.returns-in_default-bytes_at-clause-leaves
+returns-in_default-bytes_at-clause-leaves c =
+    let may = c.requires.may.1 in
+    leaves_same c.args.self.now c.args.me _ may.over.held.strays may.caller.free

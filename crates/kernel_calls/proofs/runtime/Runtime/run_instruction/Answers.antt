@@ -1,7 +1,10 @@
-use Rattle.std.proofs.Common.{◌∙◌, ◌≡◌, ◌-◌, refl, subst, ℕ}
+use Rattle.std.proofs.Common.{◌∙◌, ◌≡◌, ◌-◌, ◌<◌, refl, sym, subst, length, ℕ}
 use Rattle.sls_base.specs.declared.thread.Thread.{Thread as ThreadRecord}
+use Rattle.kobj_table.specs.declared.slot.Slot.{Slot}
+use Rattle.kobj_table.specs.Slots.{cores_of}
 use Rattle.kobj_table.specs.Objects.{state_of}
 use Rattle.plain_state.specs.States.{thread_at}
+use Rattle.object_records.proofs.Untold.{joined}
 use Rattle.kernel_calls.specs.Ticking.{Settles}
 use Rattle.kernel_calls.proofs.Settled.{now_settled, scheduler_obeyed}
 use Rattle.kernel_calls.proofs.runtime.Runtime.run_instruction.Goals as goal
@@ -38,3 +41,10 @@ returns-clause-scheduler c =
     let obeys = c.obey-done.ensures.obeys held.held.world held.held.rest held.found in
     c.settle.ensures.settles.scheduler
     ∙ scheduler_obeyed c.args.self.now c.obey-done.new.self c.settle.new.self held.held.rest obeys.0 c.obey-done.new.nvm held.held.world _ c.obey-done.result obeys.1 held.held.scheduler
+
+pub returns-clause-untold : goal.returns-clause-untold
+returns-clause-untold c below =
+    let held = c.requires.may.over in
+    let obeys = c.obey-done.ensures.obeys held.held.world held.held.rest held.found in
+    let left = c.settle.ensures.untold (subst (λ (s : Slot). c.args.core < length (cores_of s)) (sym obeys.1.scheduler) below) in
+    record { each = λ i. joined _ _ _ (c.obey-done.ensures.leaves.untold.each i) (left.each i) }

@@ -29,7 +29,9 @@ use Rattle.kernel_calls.proofs.Places.{listed, free_unlisted, asleep_unlisted, c
 use Rattle.kernel_calls.proofs.Queues.{relisted, strays_moved, with_links, given_back}
 use Rattle.kernel_calls.proofs.Threads.{apart, is_thread_slot, caller_waits, caller_handed, not_back}
 use Rattle.kernel_calls.proofs.Connections.{serve_is, is_its_server, cases_option, beside_is, is_served, in_range, put_served}
+use Rattle.object_records.specs.Untold.{KeepsUntold}
 use Rattle.kernel_calls.proofs.Kept.{KeepsRings, rings_put, rings_lent}
+use Rattle.kernel_calls.proofs.Untold.{all_kept, keeps_same, lent_next, put_next, slots_next}
 use Rattle.kernel_calls.proofs.runtime.Runtime.serve.Goals as goal
 
 pub returns-in_default-clause-does : goal.returns-in_default-clause-does
@@ -210,6 +212,8 @@ returns-clause-keeps c =
     let lent = given_back (with_links o links) c.give_back.new.objects served c.serve.new.client moved client_slot c.give_back.ensures.some c.give_back.ensures.none c.give_back.ensures.strays in
     let strays = c.put.ensures.strays lent.0 (λ not_queue no_list. absurd (false≢true (sym no_list))) in
     let put_links = puts.links ∙ lent.1 in
+    let first_given : KeepsUntold o c.give_back.new.objects = lent_next served c.serve.new.client (slots_next {o = o} {n = with_links o links} (all_kept o) refl) c.give_back.ensures.some c.give_back.ensures.none in
+    let untold : KeepsUntold o c.give_back-2.new.objects = lent_next c.first-first.result c.serve.new.next (put_next first_given puts tt) c.give_back-2.ensures.some c.give_back-2.ensures.none in
     let rings : KeepsRings o c.give_back-2.new.objects =
     λ i ring is. rings_lent (with_links o links) c.give_back.new.objects served c.serve.new.client c.give_back.ensures.some c.give_back.ensures.none i ring (rings_put puts (λ other same. cc) i ring
     (rings_lent c.put.new.self c.give_back-2.new.objects c.first-first.result c.serve.new.next c.give_back-2.ensures.some c.give_back-2.ensures.none i ring is)) in
@@ -225,6 +229,7 @@ returns-clause-keeps c =
             caller = rw n_is stays;
             strays = rw n_is strays;
             free = λ left back. absurd (not_back thread _ (Serving id) left c.of_caller.ensures (c.serve.ensures.serving is_me empty) refl back);
+            untold = untold;
             rings = rings;
           })
       | inr waiting ↦
@@ -248,6 +253,10 @@ returns-clause-keeps c =
             caller = back.others me (λ same. c.requires.caller.free id (rw (is, same) (0, omega arith, refl))) ∙ stays;
             strays = (rw first_is at c.give_back-2.ensures.strays) strays (λ not_queue no_list. none_at not_queue);
             free = λ left at_back. rw (back.links, put_links) free;
+            untold = untold;
             rings = rings;
           })
     ]
+
+pub returns-in_default-clause-keeps : goal.returns-in_default-clause-keeps
+returns-in_default-clause-keeps c = keeps_same c.args.self.now _ c.args.me _ refl c.requires.held.strays c.requires.caller.free

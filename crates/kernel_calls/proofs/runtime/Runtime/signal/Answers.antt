@@ -14,6 +14,7 @@ use Rattle.plain_state.specs.Objects.{Notification, is_kind}
 use Rattle.plain_state.specs.CallRefusals.{is_full_count}
 use Rattle.plain_state.specs.CallEffects.{effect_of_call}
 use Rattle.call_readings.specs.Kernel.{world_of}
+use Rattle.object_records.specs.Untold.{KeepsUntold}
 use Rattle.kernel_calls.proofs.Unrefused.{met_by}
 use Rattle.kernel_calls.proofs.Objects.{put_gives, both_given}
 use Rattle.kernel_calls.proofs.Frames.{changed, one_put, not_scheduler}
@@ -22,6 +23,7 @@ use Rattle.kernel_calls.proofs.Queues.{relisted, strays_moved}
 use Rattle.kernel_calls.proofs.Threads.{apart, is_thread_slot, caller_answered}
 use Rattle.kernel_calls.proofs.Notes.{signal_wakes, signal_counts, rises, not_greatest}
 use Rattle.kernel_calls.proofs.Kept.{KeepsRings, rings_put, rings_lent}
+use Rattle.kernel_calls.proofs.Untold.{keeps_same, lent_next, put_kept}
 use Rattle.kernel_calls.proofs.runtime.Runtime.signal.Goals as goal
 
 pub returns-in_default-clause-does : goal.returns-in_default-clause-does
@@ -91,12 +93,13 @@ returns-clause-keeps c a =
     let free = c.signal.ensures.free c.args.me a.caller.free in
     let rings : KeepsRings o c.give_back.new.objects =
     λ i ring is. rings_put puts (λ other same. cc) i ring (rings_lent c.put.new.self c.give_back.new.objects c.first-first.result c.signal.new.waiter c.give_back.ensures.some c.give_back.ensures.none i ring is) in
+    let untold : KeepsUntold o c.give_back.new.objects = lent_next c.first-first.result c.signal.new.waiter (put_kept puts refl tt) c.give_back.ensures.some c.give_back.ensures.none in
     elim (cases_list (list_at o.links id)) [
       | inl empty ↦
           (let none : c.first-first.result ≡ None = c.first-first.ensures.first ∙ ap (λ (l : List ℕ). slice_get l 0) empty in
           let back = rw none at c.give_back.ensures.none in
           let moved = strays_moved o c.signal.new.links id has (λ i other not_queue. ap (λ (l : List (List ℕ)). list_at l i) (c.signal.ensures.nobody empty)) a.held.strays in
-          record { caller = rw back (puts.others c.args.me (apart o c.args.me id (rw a.caller.there refl) (rw slot_is refl))); strays = rw back (c.put.ensures.strays moved (λ other no_list. absurd (false≢true (sym no_list)))); free = λ left at_back. rw (back, puts.links) free; rings = rings })
+          record { caller = rw back (puts.others c.args.me (apart o c.args.me id (rw a.caller.there refl) (rw slot_is refl))); strays = rw back (c.put.ensures.strays moved (λ other no_list. absurd (false≢true (sym no_list)))); free = λ left at_back. rw (back, puts.links) free; untold = untold; rings = rings })
       | inr waiting ↦
           (let first = waiting.0 in
           let is = waiting.2 in
@@ -112,6 +115,10 @@ returns-clause-keeps c a =
             caller = back.others c.args.me (λ same. a.caller.free id (rw (is, same) (0, omega arith, refl))) ∙ puts.others c.args.me (apart o c.args.me id (rw a.caller.there refl) (rw slot_is refl));
             strays = (rw first_is at c.give_back.ensures.strays) strays (λ other no_list. strays first other (rw thread_is refl));
             free = λ left at_back. rw (back.links, puts.links) free;
+            untold = untold;
             rings = rings;
           })
     ]
+
+pub returns-in_default-clause-keeps : goal.returns-in_default-clause-keeps
+returns-in_default-clause-keeps c a = keeps_same c.args.self.now _ c.args.me _ refl a.held.strays a.caller.free

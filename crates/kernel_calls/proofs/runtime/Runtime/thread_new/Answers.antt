@@ -12,6 +12,7 @@ use Rattle.call_readings.specs.Kernel.{world_of}
 use Rattle.kernel_calls.proofs.Made.{made}
 use Rattle.kernel_calls.proofs.Queues.{queued, still_free}
 use Rattle.kernel_calls.proofs.Kept.{rings_same}
+use Rattle.kernel_calls.proofs.Untold.{slots_next}
 use Rattle.kernel_calls.proofs.runtime.Runtime.thread_new.Goals as goal
 
 some_id : (x : Option ℕ) (a b : ℕ) → x ≡ Some a → x ≡ Some b → a ≡ b
@@ -38,6 +39,7 @@ returns-in-Some-clause-keeps c =
       caller = rw c.enqueue.ensures.slots (c.make-done.ensures.keeps c.requires.held c.requires.caller).caller;
       strays = c.enqueue.ensures.strays (c.make-done.ensures.keeps c.requires.held c.requires.caller).strays;
       free = λ left back. still_free _ _ _ c.in-Some.id c.args.me c.enqueue.ensures.last ((c.make-done.ensures.keeps c.requires.held c.requires.caller).free left back) (λ same. fresh.1 (sym same));
+      untold = slots_next (c.make-done.ensures.keeps c.requires.held c.requires.caller).untold c.enqueue.ensures.slots;
       rings = λ i ring is. (c.make-done.ensures.keeps c.requires.held c.requires.caller).rings i ring (rings_same c.make-done.new.self.objects c.enqueue.new.self c.enqueue.ensures.slots i ring is);
     }
 

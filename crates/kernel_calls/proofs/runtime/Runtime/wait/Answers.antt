@@ -19,6 +19,7 @@ use Rattle.kernel_calls.proofs.Queues.{relisted, strays_moved}
 use Rattle.kernel_calls.proofs.Threads.{apart, caller_answered, caller_waits, not_back}
 use Rattle.kernel_calls.proofs.Notes.{wait_waits, wait_takes}
 use Rattle.kernel_calls.proofs.Kept.{rings_put}
+use Rattle.kernel_calls.proofs.Untold.{keeps_same, put_kept}
 use Rattle.kernel_calls.proofs.runtime.Runtime.wait.Goals as goal
 
 pub returns-in_default-clause-does : goal.returns-in_default-clause-does
@@ -80,6 +81,7 @@ returns-clause-keeps c a =
             caller = puts.others c.args.me (apart o c.args.me id (rw a.caller.there refl) (rw slot_is refl));
             strays = c.put.ensures.strays (strays_moved o c.wait.new.links id has (λ i other not_queue. joined.others i other) a.held.strays) (λ other no_list. absurd (false≢true (sym no_list)));
             free = λ left back. absurd (not_back thread _ (Waiting id) left c.of_caller.ensures (c.wait.ensures.waits zero_is) refl back);
+            untold = put_kept puts refl tt;
             rings = rings_put puts (λ ring same. cc);
           })
       | inr some ↦
@@ -88,6 +90,10 @@ returns-clause-keeps c a =
             caller = puts.others c.args.me (apart o c.args.me id (rw a.caller.there refl) (rw slot_is refl));
             strays = c.put.ensures.strays (strays_moved o c.wait.new.links id has (λ i other not_queue. ap (λ (l : List (List ℕ)). list_at l i) kept) a.held.strays) (λ other no_list. absurd (false≢true (sym no_list)));
             free = λ left back. rw (puts.links, kept) a.caller.free;
+            untold = put_kept puts refl tt;
             rings = rings_put puts (λ ring same. cc);
           })
     ]
+
+pub returns-in_default-clause-keeps : goal.returns-in_default-clause-keeps
+returns-in_default-clause-keeps c a = keeps_same c.args.self.now _ c.args.me _ refl a.held.strays a.caller.free
