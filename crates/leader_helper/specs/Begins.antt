@@ -1,0 +1,25 @@
+-- What the leader finds when a checkpoint begins.
+use Rattle.std.specs.Prelude.{◌≡◌, ◌≢◌, ℕ, ◌<◌, Option, Some, is_some}
+use Rattle.sls_base.specs.declared.limits.TheConstants.{LAST_VERSION, OBJECTS, PAGES}
+use Rattle.kobj_codec.specs.declared.obj.Obj.{Obj}
+use Rattle.pmem_layout.specs.declared.number.Number.TheVariants.{Object}
+use Rattle.pmem_layout.specs.Numbers.{index_of}
+use Rattle.pmem_model.specs.Words.{Word}
+use Rattle.page_store.specs.Stages.{stage_of, IsSettled}
+use Rattle.durable_state.specs.Parts.{Parts}
+use Rattle.version_rooms.specs.declared.rooms.Rooms.{Rooms}
+use Rattle.version_rooms.specs.Rest.{AreAtRest}
+
+-- An object is to be written: it has a record, and what is saved of its number is another one, or none.
+pub record IsToWrite (now saved : Option Obj) : Type 0 where
+  pub obj : Obj
+  pub is : now ≡ Some obj
+  pub other : saved ≢ Some obj
+
+-- A checkpoint may begin: there is one more version, all is at rest, no core prepares a page, and the numbers in use of
+-- what is saved are those of its objects.
+pub record MayBegin (r : Rooms) (f : ℕ → Word) (v : ℕ) (saved : Parts) (pages : ℕ → Option (ℕ → ℕ)) : Type 0 where
+  pub in_range : v < LAST_VERSION
+  pub rest : AreAtRest r f v saved pages
+  pub settled : (page : ℕ) → page < PAGES → IsSettled (stage_of r.pages page)
+  pub used : (id : ℕ) → id < OBJECTS → saved.numbers (index_of (Object id)) ≡ is_some (saved.objects id)

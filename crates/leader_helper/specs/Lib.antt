@@ -1,0 +1,5 @@
+pub mod Stages
+pub mod Leads
+pub mod Turns
+pub mod Begins
+pub mod Sweep

@@ -1,0 +1,92 @@
+//! The leader's stages.
+
+ghost use Rattle.std.specs.Prelude.{◌≡◌, ◌≢◌, ◌⊎◌, ◌+◌, ◌<◌, ◌≤◌, ◌↔◌, ℕ, true, false, IsTrue, IfSome, Option};
+ghost use Rattle.sls_base.specs.declared.limits.TheConstants.{PAGES, VERSION_AT};
+ghost use Rattle.pmem_model.specs.Words.{Word};
+ghost use Rattle.pmem_model.specs.Events.{IsCalm};
+ghost use Rattle.pmem_model.specs.Memory.{word_at, AllHome, SameHomes, count_up};
+ghost use Rattle.kobj_codec.specs.Objects.{IsObj};
+ghost use Rattle.object_records.specs.Records.{record_at};
+ghost use Rattle.page_store.specs.Stages.{stage_of, state_of, after};
+ghost use Rattle.durable_state.specs.Parts.{Parts};
+ghost use Rattle.version_rooms.specs.Rooms.{Contents};
+ghost use Rattle.leader_helper.specs.Leads.{AreNext, IsApplying, IsLeading, IsWriting, Writes, Applies};
+ghost use Rattle.leader_helper.specs.Turns.{turns_left};
+
+use crate::stage::{Progress, Stage};
+use kobj_table::Objects;
+use pmem_model::Pmem;
+use sls_base::OBJECTS;
+use version_rooms::Rooms;
+
+/// The leader of a checkpoint: what it does next, and which objects changed since the last commit.
+///
+/// A step does at most one operation on the memory, and no call takes memory.
+#[derive(Drop)]
+pub struct Leader {
+    pub(crate) stage: Stage,
+    pub(crate) changed: [bool; OBJECTS],
+}
+
+impl Leader {
+    /// What the leader does next.
+    pub fn stage(&self) -> Stage
+        ensures { result ≡ self.now.stage }
+    {
+        self.stage
+    }
+
+    /// A turn of the leader. It tells when the next version is committed, and when the checkpoint is at its end.
+    pub fn step(&mut self, objects: &Objects, rooms: &mut Rooms, nvm: &mut Pmem) -> Progress
+        requires leads { IsLeading self.old rooms.old (word_at nvm.old) (record_at objects.now) }
+        requires records { (id : ℕ) → IfSome (record_at objects.now id) IsObj }
+        requires home { AllHome nvm.old }
+        ensures writes { (v : ℕ) (c : Contents) → c.objects ≡ record_at objects.now
+            → IsWriting self.old rooms.old (word_at nvm.old) v c
+            → Writes result rooms.old self.new rooms.new (word_at nvm.new) v c }
+        ensures applies { (v : ℕ) (saved : Parts) (pages : ℕ → Option (ℕ → ℕ))
+            → IsApplying self.old rooms.old (word_at nvm.old) v saved pages
+            → Applies result self.new rooms.new (word_at nvm.new) v saved pages }
+        // Of the turns that are left this was one.
+        ensures left { result ≢ Progress.Resumed
+            → turns_left self.old rooms.old ≡ turns_left self.new rooms.new + 1 }
+        ensures last { result ≡ Progress.Resumed → turns_left self.old rooms.old ≡ 1 }
+        // A page may be stored to as before, up to the commit.
+        ensures led { result ≢ Progress.Committed
+            → (page : ℕ) → page < PAGES → state_of rooms.new.pages page ≡ state_of rooms.old.pages page }
+        ensures committed { result ≡ Progress.Committed
+            → (page : ℕ) → page < PAGES → stage_of rooms.new.pages page ≡ after (stage_of rooms.old.pages page) }
+        ensures running { rooms.new.numbers.running ≡ rooms.old.numbers.running }
+        ensures homes { SameHomes nvm.old nvm.new }
+        ensures one { (nvm.new.ops ≡ nvm.old.ops) ⊎ (nvm.new.ops ≡ count_up nvm.old.ops) }
+    {
+        Progress::Led
+    }
+
+    /// After an event that stored nothing, as a write-back: whether it committed the next version. If it did, the
+    /// leader goes on behind the commit.
+    pub fn settle(&mut self, rooms: &mut Rooms, nvm: &Pmem) -> bool
+        ensures none { result ≡ false → (self.new ≡ self.old) × (rooms.new ≡ rooms.old) }
+        ensures writes { (f : ℕ → Word) (v : ℕ) (c : Contents) → IsCalm f (word_at nvm.now)
+            → IsWriting self.old rooms.old f v c → result ≡ false
+            → IsWriting self.new rooms.new (word_at nvm.now) v c }
+        ensures commits { (f : ℕ → Word) (v : ℕ) (c : Contents) → IsCalm f (word_at nvm.now)
+            → IsWriting self.old rooms.old f v c → IsTrue result
+            → (next : Parts) → AreNext rooms.old c next
+            → IsApplying self.new rooms.new (word_at nvm.now) (v + 1) next c.pages }
+        ensures committed { (f : ℕ → Word) (v : ℕ) (c : Contents) → IsCalm f (word_at nvm.now)
+            → IsWriting self.old rooms.old f v c
+            → IsTrue result ↔ ((word_at nvm.now VERSION_AT).durable ≢ v) }
+        ensures applies { (f : ℕ → Word) (v : ℕ) (saved : Parts) (pages : ℕ → Option (ℕ → ℕ))
+            → IsCalm f (word_at nvm.now) → IsApplying self.old rooms.old f v saved pages
+            → (result ≡ false) × IsApplying self.new rooms.new (word_at nvm.now) v saved pages }
+        ensures left { (f : ℕ → Word) (v : ℕ) (c : Contents) → IsCalm f (word_at nvm.now)
+            → IsWriting self.old rooms.old f v c
+            → turns_left self.new rooms.new ≤ turns_left self.old rooms.old }
+        ensures stages { (f : ℕ → Word) (v : ℕ) (c : Contents) → IsCalm f (word_at nvm.now)
+            → IsWriting self.old rooms.old f v c → IsTrue result
+            → (page : ℕ) → page < PAGES → stage_of rooms.new.pages page ≡ after (stage_of rooms.old.pages page) }
+    {
+        false
+    }
+}
