@@ -45,16 +45,29 @@ pub record AreNext (r : Rooms) (c : Contents) (next : Parts) : Type 0 where
 -- The next version was committed, and is what is saved now. Its log is applied, and then all is at rest.
 pub data IsApplying (l : Leader) (r : Rooms) (f : ℕ → Word) (v : ℕ) (saved : Parts) (pages : ℕ → Option (ℕ → ℕ))
     : Type 0 where
-  Applies : l.stage ≡ at.Apply → AreCommitted r
+  Applying : l.stage ≡ at.Apply → AreCommitted r
       → ((objects : ℕ → Option Obj)
       → RoomsShow r f v (record { saved = saved; objects = objects; pages = pages }) Open)
       → IsApplying l r f v saved pages
-  Rests : l.stage ≡ at.Resume → AreAtRest r f v saved pages → IsApplying l r f v saved pages
+  Applied : l.stage ≡ at.Resume → AreAtRest r f v saved pages → IsApplying l r f v saved pages
 
--- some contents are being written, or were committed
+-- some contents are being written
+pub record IsLedTo (l : Leader) (r : Rooms) (f : ℕ → Word) : Type 0 where
+  pub version : ℕ
+  pub contents : Contents
+  pub writing : IsWriting l r f version contents
+
+-- some contents were committed
+pub record IsLedFrom (l : Leader) (r : Rooms) (f : ℕ → Word) : Type 0 where
+  pub version : ℕ
+  pub saved : Parts
+  pub pages : ℕ → Option (ℕ → ℕ)
+  pub applying : IsApplying l r f version saved pages
+
+-- some contents are being written, of these objects, or were committed
 pub data IsLeading (l : Leader) (r : Rooms) (f : ℕ → Word) (objects : ℕ → Option Obj) : Type 0 where
-  Writes : (v : ℕ) (c : Contents) → c.objects ≡ objects → IsWriting l r f v c → IsLeading l r f objects
-  Applies : (v : ℕ) (saved : Parts) (pages : ℕ → Option (ℕ → ℕ)) → IsApplying l r f v saved pages
+  Before : (v : ℕ) (c : Contents) → c.objects ≡ objects → IsWriting l r f v c → IsLeading l r f objects
+  Behind : (v : ℕ) (saved : Parts) (pages : ℕ → Option (ℕ → ℕ)) → IsApplying l r f v saved pages
       → IsLeading l r f objects
 
 -- What a step before the commit comes to: the next version is being written still, or it is committed, whichever of the

@@ -41,36 +41,41 @@ record_phase (at.Tags id) = phases.Tags
 record_phase at.Commit = phases.Tagged
 record_phase stage = phases.Records
 
--- a record is flushed, or its tag is
+-- a record is stored, or flushed; its tag is stored, or flushed
+
+abbrev pub IsIdle : RecordStage → Type 0
+IsIdle stage = stage ≡ Idle
+
+abbrev pub IsStored : RecordStage → Type 0
+IsStored stage = (slot : Slot) × (stage ≡ Stored slot)
 
 abbrev pub IsWritten : RecordStage → Type 0
 IsWritten stage = (slot : Slot) × (stage ≡ Flushed slot)
 
+abbrev pub HasTag : RecordStage → Type 0
+HasTag stage = (slot : Slot) × (stage ≡ TagStored slot)
+
 abbrev pub IsTagged : RecordStage → Type 0
 IsTagged stage = (slot : Slot) × (stage ≡ TagFlushed slot)
 
--- how far the record of a changed object has come, where records are written from `first` on
-pub record IsWrittenFrom (first id : ℕ) (stage : RecordStage) : Type 0 where
-  pub before : id < first → IsWritten stage
-  pub here : id ≡ first → (stage ≡ Idle) ⊎ ((slot : Slot) × (stage ≡ Stored slot))
-  pub behind : first < id → stage ≡ Idle
-
--- and where they are tagged from `first` on
-pub record IsTaggedFrom (first id : ℕ) (stage : RecordStage) : Type 0 where
-  pub before : id < first → IsTagged stage
-  pub here : id ≡ first → IsWritten stage ⊎ ((slot : Slot) × (stage ≡ TagStored slot))
-  pub behind : first < id → IsWritten stage
+-- Records are taken in order, from `first` on: those before it are done, those behind it are still to be done, and what
+-- is done to this one may have begun.
+pub record IsDoneFrom (first : ℕ) (todo begun done : RecordStage → Type 0) (id : ℕ) (stage : RecordStage)
+    : Type 0 where
+  pub before : id < first → done stage
+  pub here : id ≡ first → todo stage ⊎ begun stage
+  pub behind : first < id → todo stage
 
 -- how far the record of a changed object has come
 abbrev pub HasCome : Stage → ℕ → RecordStage → Type 0
-HasCome (at.Pages page) id stage = stage ≡ Idle
-HasCome (at.Records first) id stage = IsWrittenFrom first id stage
+HasCome (at.Pages page) id stage = IsIdle stage
+HasCome (at.Records first) id stage = IsDoneFrom first IsIdle IsStored IsWritten id stage
 HasCome at.Log id stage = IsWritten stage
 HasCome at.Fence id stage = IsWritten stage
-HasCome (at.Tags first) id stage = IsTaggedFrom first id stage
+HasCome (at.Tags first) id stage = IsDoneFrom first IsWritten HasTag IsTagged id stage
 HasCome at.Commit id stage = IsTagged stage
-HasCome at.Apply id stage = stage ≡ Idle
-HasCome at.Resume id stage = stage ≡ Idle
+HasCome at.Apply id stage = IsIdle stage
+HasCome at.Resume id stage = IsIdle stage
 
 -- That of a changed object has come so far. No other is written, and it is the saved one, or there is none.
 abbrev pub IsRecordDone : Stage → Bool → ℕ → RecordStage → Option Obj → Option Obj → Type 0

@@ -1,5 +1,5 @@
 -- How many turns of the leader are left.
-use Rattle.std.specs.Prelude.{ℕ, ◌+◌, ◌*◌, ◌&&◌, Bool, true, false}
+use Rattle.std.specs.Prelude.{◌≡◌, ℕ, ◌+◌, ◌<◌, ◌&&◌, Bool, true, false}
 use Rattle.sls_base.specs.declared.limits.TheConstants.{OBJECTS, PAGES}
 use Rattle.alloc_journal.specs.declared.journal.Stage.TheVariants as logs
 use Rattle.alloc_journal.specs.declared.journal.Stage.{Stage as LogStage}
@@ -8,7 +8,7 @@ use Rattle.alloc_journal.specs.Work.{InUse, log_left, redo_left}
 use Rattle.object_root.specs.Room.{stage_at}
 use Rattle.object_root.specs.declared.stage.Stage.{Stage as RecordStage}
 use Rattle.object_root.specs.declared.stage.Stage.TheVariants as records
-use Rattle.page_store.specs.Stages.{stage_of}
+use Rattle.page_store.specs.Stages.{stage_of, state_of}
 use Rattle.page_store.specs.declared.stage.PageStage.{PageStage}
 use Rattle.page_store.specs.declared.stage.PageStage.TheVariants.{Writable}
 use Rattle.page_store.specs.declared.stage.Writes.TheVariants.{Stored}
@@ -25,9 +25,13 @@ abbrev pub is_unflushed : PageStage → Bool
 is_unflushed (Writable origin Stored) = true
 is_unflushed stage = false
 
+-- a page of the rooms was
+abbrev pub is_to_flush : Rooms → ℕ → Bool
+is_to_flush r page = is_unflushed (stage_of r.pages page)
+
 -- the pages that are still to be flushed
 abbrev pub pages_left : Rooms → ℕ
-pages_left r = count_of (λ page. is_unflushed (stage_of r.pages page)) PAGES
+pages_left r = count_of (is_to_flush r) PAGES
 
 -- how many steps a record still needs until it is flushed, and then until its tag is
 
@@ -101,3 +105,10 @@ turns_at at.Resume l r = 1
 
 abbrev pub turns_left : Leader → Rooms → ℕ
 turns_left l r = turns_at l.stage l r
+
+-- A turn of the leader that commits nothing: of those that were left it was one. Pages may be stored to as before, and
+-- the numbers in use are the same.
+pub record IsTurn (old new : Leader) (r s : Rooms) : Type 0 where
+  pub left : turns_left old r ≡ turns_left new s + 1
+  pub pages : (page : ℕ) → page < PAGES → state_of s.pages page ≡ state_of r.pages page
+  pub running : s.numbers.running ≡ r.numbers.running

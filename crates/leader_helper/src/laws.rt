@@ -18,4 +18,7 @@ pub fn commit_point()
     ensures after { (l : Leader) (r : Rooms) (f : ℕ → Word) (left : ℕ → ℕ) (v : ℕ) (saved : Parts)
         (pages : ℕ → Option (ℕ → ℕ)) → ((i : ℕ) → Left (f i) (left i)) → IsApplying l r f v saved pages
         → (left VERSION_AT ≡ v) × PartsStand left v saved }
-{}
+{
+    version_rooms::laws::commit_point();
+    version_rooms::laws::at_rest();
+}

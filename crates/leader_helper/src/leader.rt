@@ -60,7 +60,34 @@ impl Leader {
         ensures homes { SameHomes nvm.old nvm.new }
         ensures one { (nvm.new.ops ≡ nvm.old.ops) ⊎ (nvm.new.ops ≡ count_up nvm.old.ops) }
     {
-        Progress::Led
+        match self.stage {
+            Stage::Pages(first) => {
+                self.flush_next(rooms, nvm, first);
+                Progress::Led
+            }
+            Stage::Records(first) => {
+                self.write_next(objects, rooms, nvm, first);
+                Progress::Led
+            }
+            Stage::Log => {
+                self.log_next(rooms, nvm);
+                Progress::Led
+            }
+            Stage::Fence => {
+                self.fence_records(rooms, nvm);
+                Progress::Led
+            }
+            Stage::Tags(first) => {
+                self.tag_next(rooms, nvm, first);
+                Progress::Led
+            }
+            Stage::Commit => self.commit_next(rooms, nvm),
+            Stage::Apply => {
+                self.apply_next(rooms, nvm);
+                Progress::Led
+            }
+            Stage::Resume => Progress::Resumed,
+        }
     }
 
     /// After an event that stored nothing, as a write-back: whether it committed the next version. If it did, the
@@ -87,6 +114,12 @@ impl Leader {
             → IsWriting self.old rooms.old f v c → IsTrue result
             → (page : ℕ) → page < PAGES → stage_of rooms.new.pages page ≡ after (stage_of rooms.old.pages page) }
     {
-        false
+        version_rooms::laws::calm();
+        if rooms.settle(nvm) {
+            self.stage = Stage::Apply;
+            true
+        } else {
+            false
+        }
     }
 }

@@ -2,10 +2,13 @@
 #![tactic(auto)]
 
 mod begin;
+mod finding;
 pub mod laws;
 mod leader;
+mod records;
 mod stage;
 mod sweeping;
+mod turns;
 
 pub use leader::Leader;
 pub use stage::{Progress, Stage};

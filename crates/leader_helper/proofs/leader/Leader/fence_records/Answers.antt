@@ -1,0 +1,30 @@
+use Rattle.std.specs.Prelude.{◌≡◌, ◌≢◌, ◌+◌, ℕ, Bool, true, false}
+use Rattle.std.proofs.Common.{◌∙◌, ap, arith, inl, inr, refl, subst, sym}
+use Rattle.pmem_model.specs.Memory.{word_at}
+use Rattle.page_store.specs.Known.{Open, Fenced}
+use Rattle.version_rooms.specs.declared.rooms.Rooms.{Rooms}
+use Rattle.version_rooms.specs.Rooms.{RoomsShow}
+use Rattle.leader_helper.specs.declared.leader.Leader.{Leader}
+use Rattle.leader_helper.specs.declared.stage.Stage.TheVariants as at
+use Rattle.leader_helper.specs.Leads.{IsWriting}
+use Rattle.leader_helper.specs.Turns.{IsTurn}
+use Rattle.leader_helper.proofs.Turned.{fence_turn}
+use Rattle.leader_helper.proofs.Writing.{at_rest, records_fenced}
+use Rattle.leader_helper.proofs.leader.Leader.fence_records.Goals as goal
+
+pub returns-clause-writes : goal.returns-clause-writes
+returns-clause-writes c = λ v cont h.
+    let l : Leader = record c.args.self.now { stage = at.Tags 0 } in
+    let s = c.fence_objects.new.self in
+    let g = word_at c.fence_objects.new.nvm in
+    subst (λ (x : Rooms). IsWriting l x g v cont) (sym c.fence_objects.ensures.rest)
+    (records_fenced s.roots c.requires.stage c.fence_objects.ensures.passed
+    (λ shows. subst (λ (x : Rooms). RoomsShow x g v cont Fenced) c.fence_objects.ensures.rest (c.fence_objects.ensures.shows Fenced v cont shows)) h)
+
+pub returns-clause-turn : goal.returns-clause-turn
+returns-clause-turn c =
+    let l : Leader = record c.args.self.now { stage = at.Tags 0 } in
+    let r = c.args.rooms.now in
+    let s = c.fence_objects.new.self in
+    subst (λ (x : Rooms). IsTurn c.args.self.now l r x) (sym c.fence_objects.ensures.rest)
+    (fence_turn c.args.self.now r s.roots c.requires.stage c.fence_objects.ensures.passed.stages)
