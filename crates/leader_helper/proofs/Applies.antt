@@ -1,5 +1,5 @@
 -- What is kept behind the commit.
-use Rattle.std.specs.Prelude.{◌≡◌, ◌+◌, ℕ, Bool, true, Option}
+use Rattle.std.specs.Prelude.{◌≡◌, ℕ, true, Option}
 use Rattle.std.proofs.Common.{◌∙◌, refl, sym}
 use Rattle.pmem_model.specs.Words.{Word}
 use Rattle.kobj_codec.specs.declared.obj.Obj.{Obj}

@@ -1,5 +1,5 @@
 -- What is kept where the next version is committed.
-use Rattle.std.specs.Prelude.{◌≡◌, ◌≢◌, ◌⊎◌, ◌+◌, ◌-◌, ◌<◌, ◌≤◌, ℕ, Bool, true, false, if◌then◌else◌, Option}
+use Rattle.std.specs.Prelude.{◌≡◌, ◌≢◌, ◌⊎◌, ◌+◌, ◌-◌, ◌≤◌, ℕ, Bool, true, false, if◌then◌else◌, Option}
 use Rattle.std.proofs.Common.{◌∙◌, ap, arith, inl, inr, refl, subst, sym}
 use Rattle.pmem_model.specs.Words.{Word}
 use Rattle.kobj_codec.specs.declared.obj.Obj.{Obj}
@@ -13,10 +13,10 @@ use Rattle.alloc_journal.specs.Sets.{has}
 use Rattle.alloc_journal.specs.Work.{Work, as_committed, is_logged, redo_left, once_committed as with_log}
 use Rattle.object_root.specs.declared.stage.Stage.{Stage as RecordStage}
 use Rattle.object_root.specs.Shows as roots
-use Rattle.page_store.specs.Known.{Open, Fenced}
+use Rattle.page_store.specs.Known.{Fenced}
 use Rattle.durable_state.specs.Parts.{Parts}
 use Rattle.version_rooms.specs.declared.rooms.Rooms.{Rooms}
-use Rattle.version_rooms.specs.Rooms.{AreCommitted, Contents, IsReady, MayCommit, RoomsShow, TakesLogged}
+use Rattle.version_rooms.specs.Rooms.{Contents, IsReady, MayCommit, RoomsShow, TakesLogged}
 use Rattle.leader_helper.specs.declared.leader.Leader.{Leader}
 use Rattle.leader_helper.specs.declared.stage.Stage.{Stage}
 use Rattle.leader_helper.specs.declared.stage.Stage.TheVariants as at

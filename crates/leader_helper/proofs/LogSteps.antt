@@ -1,5 +1,5 @@
 -- What a step of the log comes to.
-use Rattle.std.specs.Prelude.{◌≡◌, ◌≢◌, ◌⊎◌, ◌+◌, ℕ, Bool, true, false, List}
+use Rattle.std.specs.Prelude.{◌≡◌, ◌+◌, ℕ, true, false, List}
 use Rattle.std.proofs.Common.{◌∙◌, ap, arith, inl, inr, refl, sym}
 use Rattle.pmem_layout.specs.declared.places.TheConstants.{NUMBERS}
 use Rattle.alloc_journal.specs.declared.journal.Stage.{Stage as LogStage}
@@ -9,7 +9,7 @@ use Rattle.alloc_journal.specs.Work.{InUse, is_logging, is_redo, log_left, log_l
 use Rattle.version_rooms.specs.declared.rooms.Rooms.{Rooms}
 use Rattle.version_rooms.specs.Rooms.{Logs}
 use Rattle.leader_helper.specs.declared.stage.Stage.TheVariants as at
-use Rattle.leader_helper.specs.Stages.{IsLogDone, IsLogged, IsLogging}
+use Rattle.leader_helper.specs.Stages.{IsLogDone}
 use Rattle.leader_helper.specs.Turns.{log_turns, numbers_changed}
 
 pub turns_logging : (stage : LogStage) (r : Rooms) → is_logging stage ≡ true

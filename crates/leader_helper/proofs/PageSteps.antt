@@ -1,5 +1,5 @@
 -- What a flush makes of the stage of a page.
-use Rattle.std.specs.Prelude.{◌≡◌, ◌≢◌, Bool, true, false}
+use Rattle.std.specs.Prelude.{◌≡◌, ◌≢◌, true, false}
 use Rattle.std.proofs.Common.{refl}
 use Rattle.page_store.specs.declared.stage.PageStage.{PageStage}
 use Rattle.page_store.specs.declared.stage.PageStage.TheVariants.{Fresh, Protected, Preparing, Writable}

@@ -1,16 +1,15 @@
 -- Each turn of the leader before the commit is one of those that were left.
-use Rattle.std.specs.Prelude.{◌≡◌, ◌≢◌, ◌⊎◌, ◌+◌, ◌-◌, ◌<◌, ◌≤◌, ℕ, Bool, true, false}
-use Rattle.std.proofs.Common.{◌∙◌, ap, arith, inl, inr, refl, subst, sym}
+use Rattle.std.specs.Prelude.{◌≡◌, ◌≢◌, ◌+◌, ◌-◌, ◌<◌, ℕ, true}
+use Rattle.std.proofs.Common.{◌∙◌, ap, arith, inl, inr, refl, sym}
 use Rattle.std.proofs.lemmas.Bool.{cases_eq, cases_lt}
 use Rattle.sls_base.specs.declared.limits.TheConstants.{OBJECTS, PAGES}
 use Rattle.pmem_model.specs.Words.{Word}
 use Rattle.alloc_journal.specs.declared.journal.Stage.{Stage as LogStage}
 use Rattle.alloc_journal.specs.declared.journal.Stage.TheVariants as logs
-use Rattle.alloc_journal.specs.Sets.{changes, count_of}
-use Rattle.alloc_journal.specs.Work.{InUse, is_logging, log_left, redo_left, redo_left_at}
+use Rattle.alloc_journal.specs.Sets.{changes}
+use Rattle.alloc_journal.specs.Work.{InUse, log_left, redo_left, redo_left_at}
 use Rattle.alloc_journal.proofs.SetLemmas.{count_less, count_none}
-use Rattle.object_root.specs.declared.stage.Stage.{Stage as RecordStage}
-use Rattle.object_root.specs.Room.{KeepsOthers, Passes, Room, stage_at}
+use Rattle.object_root.specs.Room.{KeepsOthers, Room, stage_at}
 use Rattle.page_store.specs.declared.store.PageStore.{PageStore}
 use Rattle.page_store.specs.Stages.{flushed, stage_of, state_at, state_of}
 use Rattle.version_rooms.specs.declared.rooms.Rooms.{Rooms}

@@ -10,7 +10,6 @@ use Rattle.alloc_journal.specs.declared.journal.Stage.TheVariants as logs
 use Rattle.alloc_journal.specs.Sets.{changes}
 use Rattle.alloc_journal.specs.Work.{InUse}
 use Rattle.object_root.specs.declared.stage.Phase.{Phase}
-use Rattle.object_root.specs.declared.stage.Phase.TheVariants as phases
 use Rattle.object_root.specs.declared.stage.Stage.{Stage as RecordStage}
 use Rattle.object_root.specs.Room.{KeepsOthers, Passes, Room, stage_at}
 use Rattle.object_root.specs.Steps.{StoresTag, Writes, fenced}
@@ -24,7 +23,7 @@ use Rattle.leader_helper.specs.declared.leader.Leader.{Leader}
 use Rattle.leader_helper.specs.declared.stage.Stage.{Stage}
 use Rattle.leader_helper.specs.declared.stage.Stage.TheVariants as at
 use Rattle.leader_helper.specs.First.{IsFirstFrom, IsNoneFrom}
-use Rattle.leader_helper.specs.Stages.{HasCome, HasTag, IsDoneFrom, IsIdle, IsLogDone, IsLogged, IsRecordDone, IsStored, IsTagged, IsWritten, is_before_commit}
+use Rattle.leader_helper.specs.Stages.{HasCome, HasTag, IsIdle, IsRecordDone, IsStored, IsTagged, IsWritten, is_before_commit}
 use Rattle.leader_helper.specs.Leads.{Applied, Applying, Before, Behind, is_changed, IsApplying, IsLeading, IsLedFrom, IsLedTo, IsWriting}
 use Rattle.leader_helper.specs.Turns.{is_to_flush}
 use Rattle.leader_helper.proofs.LogSteps.{IsOn}

@@ -1,5 +1,5 @@
 -- What the leader, the rooms and the words of the memory keep together in a checkpoint.
-use Rattle.std.specs.Prelude.{◌≡◌, ◌≢◌, ◌⊎◌, ℕ, ◌+◌, ◌<◌, Bool, true, false, Option, slice_index_or}
+use Rattle.std.specs.Prelude.{◌≡◌, ◌≢◌, ℕ, ◌+◌, ◌<◌, Bool, true, false, Option, slice_index_or}
 use Rattle.sls_base.specs.declared.limits.TheConstants.{LAST_VERSION, OBJECTS, PAGES}
 use Rattle.pmem_model.specs.Words.{Word}
 use Rattle.kobj_codec.specs.declared.obj.Obj.{Obj}

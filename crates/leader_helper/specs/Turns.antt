@@ -4,7 +4,7 @@ use Rattle.sls_base.specs.declared.limits.TheConstants.{OBJECTS, PAGES}
 use Rattle.alloc_journal.specs.declared.journal.Stage.TheVariants as logs
 use Rattle.alloc_journal.specs.declared.journal.Stage.{Stage as LogStage}
 use Rattle.alloc_journal.specs.Sets.{changes, count_of}
-use Rattle.alloc_journal.specs.Work.{InUse, log_left, redo_left}
+use Rattle.alloc_journal.specs.Work.{log_left, redo_left}
 use Rattle.object_root.specs.Room.{stage_at}
 use Rattle.object_root.specs.declared.stage.Stage.{Stage as RecordStage}
 use Rattle.object_root.specs.declared.stage.Stage.TheVariants as records

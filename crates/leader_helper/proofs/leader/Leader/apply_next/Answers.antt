@@ -1,15 +1,14 @@
-use Rattle.std.specs.Prelude.{◌≡◌, ◌≢◌, ◌+◌, ℕ, Bool, true, false}
-use Rattle.std.proofs.Common.{◌∙◌, ap, arith, inl, inr, refl, subst, sym}
+use Rattle.std.specs.Prelude.{◌≡◌, Bool, true, false}
+use Rattle.std.proofs.Common.{refl, subst, sym}
 use Rattle.pmem_model.specs.Memory.{word_at}
-use Rattle.page_store.specs.Known.{Open, Fenced}
+use Rattle.page_store.specs.Known.{Open}
 use Rattle.version_rooms.specs.declared.rooms.Rooms.{Rooms}
 use Rattle.version_rooms.specs.Rooms.{RoomsShow}
 use Rattle.leader_helper.specs.declared.leader.Leader.{Leader}
 use Rattle.leader_helper.specs.declared.stage.Stage.TheVariants as at
 use Rattle.leader_helper.specs.Leads.{IsApplying}
 use Rattle.leader_helper.specs.Turns.{IsTurn}
-use Rattle.alloc_journal.specs.Work.{is_redo}
-use Rattle.leader_helper.proofs.Applies.{apply_end, apply_on, are_committed}
+use Rattle.leader_helper.proofs.Applies.{apply_end, apply_on}
 use Rattle.leader_helper.proofs.Turned.{apply_last_turn, apply_turn}
 use Rattle.leader_helper.proofs.leader.Leader.apply_next.Goals as goal
 

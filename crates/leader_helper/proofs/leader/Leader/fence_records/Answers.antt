@@ -1,7 +1,6 @@
-use Rattle.std.specs.Prelude.{◌≡◌, ◌≢◌, ◌+◌, ℕ, Bool, true, false}
-use Rattle.std.proofs.Common.{◌∙◌, ap, arith, inl, inr, refl, subst, sym}
+use Rattle.std.proofs.Common.{subst, sym}
 use Rattle.pmem_model.specs.Memory.{word_at}
-use Rattle.page_store.specs.Known.{Open, Fenced}
+use Rattle.page_store.specs.Known.{Fenced}
 use Rattle.version_rooms.specs.declared.rooms.Rooms.{Rooms}
 use Rattle.version_rooms.specs.Rooms.{RoomsShow}
 use Rattle.leader_helper.specs.declared.leader.Leader.{Leader}
@@ -9,7 +8,7 @@ use Rattle.leader_helper.specs.declared.stage.Stage.TheVariants as at
 use Rattle.leader_helper.specs.Leads.{IsWriting}
 use Rattle.leader_helper.specs.Turns.{IsTurn}
 use Rattle.leader_helper.proofs.Turned.{fence_turn}
-use Rattle.leader_helper.proofs.Writing.{at_rest, records_fenced}
+use Rattle.leader_helper.proofs.Writing.{records_fenced}
 use Rattle.leader_helper.proofs.leader.Leader.fence_records.Goals as goal
 
 pub returns-clause-writes : goal.returns-clause-writes

@@ -1,5 +1,5 @@
-use Rattle.std.specs.Prelude.{◌≡◌, ◌≢◌, ◌+◌, ℕ, Bool, true, false}
-use Rattle.std.proofs.Common.{◌∙◌, ap, arith, inl, inr, refl, subst, sym}
+use Rattle.std.specs.Prelude.{◌+◌}
+use Rattle.std.proofs.Common.{subst, sym}
 use Rattle.pmem_model.specs.Memory.{word_at}
 use Rattle.page_store.specs.Known.{Open, Fenced}
 use Rattle.version_rooms.specs.declared.rooms.Rooms.{Rooms}
@@ -10,7 +10,7 @@ use Rattle.leader_helper.specs.Leads.{IsWriting}
 use Rattle.leader_helper.specs.Turns.{IsTurn}
 use Rattle.leader_helper.proofs.PageSteps.{is_moved}
 use Rattle.leader_helper.proofs.Turned.{flush_turn, pages_turn}
-use Rattle.leader_helper.proofs.Writing.{at_rest, page_flushed, pages_fenced}
+use Rattle.leader_helper.proofs.Writing.{page_flushed, pages_fenced}
 use Rattle.leader_helper.proofs.leader.Leader.flush_next.Goals as goal
 
 pub returns-in-Some-clause-writes : goal.returns-in-Some-clause-writes

@@ -1,7 +1,6 @@
-use Rattle.std.specs.Prelude.{◌≡◌, ◌≢◌, ◌+◌, ℕ, Bool, true, false}
-use Rattle.std.proofs.Common.{◌∙◌, ap, arith, inl, inr, refl, subst, sym}
+use Rattle.std.proofs.Common.{subst, sym}
 use Rattle.pmem_model.specs.Memory.{word_at}
-use Rattle.page_store.specs.Known.{Open, Fenced}
+use Rattle.page_store.specs.Known.{Fenced}
 use Rattle.version_rooms.specs.declared.rooms.Rooms.{Rooms}
 use Rattle.version_rooms.specs.Rooms.{RoomsShow}
 use Rattle.leader_helper.specs.declared.leader.Leader.{Leader}
@@ -10,7 +9,7 @@ use Rattle.leader_helper.specs.Leads.{IsWriting}
 use Rattle.leader_helper.specs.Turns.{IsTurn}
 use Rattle.leader_helper.proofs.LogSteps.{log_goes_on}
 use Rattle.leader_helper.proofs.Turned.{log_last_turn, log_turn}
-use Rattle.leader_helper.proofs.Writing.{at_rest, at_stage, log_stored, log_written}
+use Rattle.leader_helper.proofs.Writing.{at_stage, log_stored, log_written}
 use Rattle.leader_helper.proofs.leader.Leader.log_next.Goals as goal
 
 pub returns-then-log_step-clause-writes : goal.returns-then-log_step-clause-writes

@@ -1,5 +1,4 @@
-use Rattle.std.specs.Prelude.{◌≡◌, ◌≢◌, ℕ}
-use Rattle.std.proofs.Common.{inl, inr, refl}
+use Rattle.std.proofs.Common.{refl}
 use Rattle.leader_helper.specs.declared.stage.Stage.TheVariants as at
 use Rattle.leader_helper.proofs.Applies.{are_at_rest}
 use Rattle.leader_helper.proofs.Turned.{turns_now}

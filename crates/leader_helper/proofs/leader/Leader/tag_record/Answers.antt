@@ -1,7 +1,7 @@
-use Rattle.std.specs.Prelude.{◌≡◌, ◌≢◌, ◌+◌, ℕ, Bool, true, false}
-use Rattle.std.proofs.Common.{◌∙◌, ap, arith, inl, inr, refl, subst, sym}
+use Rattle.std.specs.Prelude.{◌+◌}
+use Rattle.std.proofs.Common.{subst, sym}
 use Rattle.pmem_model.specs.Memory.{word_at}
-use Rattle.page_store.specs.Known.{Open, Fenced}
+use Rattle.page_store.specs.Known.{Fenced}
 use Rattle.version_rooms.specs.declared.rooms.Rooms.{Rooms}
 use Rattle.version_rooms.specs.Rooms.{RoomsShow}
 use Rattle.leader_helper.specs.declared.leader.Leader.{Leader}
@@ -9,7 +9,7 @@ use Rattle.leader_helper.specs.declared.stage.Stage.TheVariants as at
 use Rattle.leader_helper.specs.Leads.{IsWriting}
 use Rattle.leader_helper.specs.Turns.{IsTurn}
 use Rattle.leader_helper.proofs.Turned.{flush_tag_turn, store_tag_turn}
-use Rattle.leader_helper.proofs.Writing.{at_rest, tag_flushed, tag_last, tag_more, tag_stored}
+use Rattle.leader_helper.proofs.Writing.{tag_flushed, tag_last, tag_more, tag_stored}
 use Rattle.leader_helper.proofs.leader.Leader.tag_record.Goals as goal
 
 pub returns-then-tag_step-clause-writes : goal.returns-then-tag_step-clause-writes

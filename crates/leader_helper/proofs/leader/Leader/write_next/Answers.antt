@@ -1,13 +1,4 @@
-use Rattle.std.specs.Prelude.{◌≡◌, ◌≢◌, ◌+◌, ℕ, Bool, true, false}
-use Rattle.std.proofs.Common.{◌∙◌, ap, arith, inl, inr, refl, subst, sym}
 use Rattle.pmem_model.specs.Memory.{word_at}
-use Rattle.page_store.specs.Known.{Open, Fenced}
-use Rattle.version_rooms.specs.declared.rooms.Rooms.{Rooms}
-use Rattle.version_rooms.specs.Rooms.{RoomsShow}
-use Rattle.leader_helper.specs.declared.leader.Leader.{Leader}
-use Rattle.leader_helper.specs.declared.stage.Stage.TheVariants as at
-use Rattle.leader_helper.specs.Leads.{IsWriting}
-use Rattle.leader_helper.specs.Turns.{IsTurn}
 use Rattle.leader_helper.proofs.Turned.{log_turn_begins, turn_after}
 use Rattle.leader_helper.proofs.Writing.{log_begun}
 use Rattle.leader_helper.proofs.leader.Leader.write_next.Goals as goal

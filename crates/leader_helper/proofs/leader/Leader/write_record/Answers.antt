@@ -1,7 +1,7 @@
-use Rattle.std.specs.Prelude.{◌≡◌, ◌≢◌, ◌+◌, ℕ, Bool, true, false, Option, slice_index}
-use Rattle.std.proofs.Common.{◌∙◌, ap, arith, inl, inr, refl, subst, sym}
+use Rattle.std.specs.Prelude.{◌+◌, ℕ, Option, slice_index}
+use Rattle.std.proofs.Common.{ap, subst, sym}
 use Rattle.pmem_model.specs.Memory.{word_at}
-use Rattle.page_store.specs.Known.{Open, Fenced}
+use Rattle.page_store.specs.Known.{Fenced}
 use Rattle.version_rooms.specs.declared.rooms.Rooms.{Rooms}
 use Rattle.version_rooms.specs.Rooms.{RoomsShow}
 use Rattle.leader_helper.specs.declared.leader.Leader.{Leader}
@@ -11,7 +11,7 @@ use Rattle.leader_helper.specs.Turns.{IsTurn}
 use Rattle.kobj_codec.specs.declared.obj.Obj.{Obj}
 use Rattle.object_root.specs.Shows.{IsRecordOf}
 use Rattle.leader_helper.proofs.Turned.{store_turn, write_turn}
-use Rattle.leader_helper.proofs.Writing.{at_rest, record_last, record_more, record_stored, record_written}
+use Rattle.leader_helper.proofs.Writing.{record_last, record_more, record_stored, record_written}
 use Rattle.leader_helper.proofs.leader.Leader.write_record.Goals as goal
 
 pub returns-then-write_step-clause-writes : goal.returns-then-write_step-clause-writes
