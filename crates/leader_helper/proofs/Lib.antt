@@ -6,3 +6,7 @@ pub mod PageSteps
 pub mod RecordSteps
 pub mod Turned
 pub mod Writing
+pub mod Running
+pub mod Founds
+pub mod Begins
+pub mod BeginTurns

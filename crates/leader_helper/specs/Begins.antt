@@ -1,5 +1,5 @@
 -- What the leader finds when a checkpoint begins.
-use Rattle.std.specs.Prelude.{◌≡◌, ◌≢◌, ℕ, ◌<◌, Option, Some, is_some}
+use Rattle.std.specs.Prelude.{◌≡◌, ◌≢◌, ◌⊎◌, ℕ, ◌<◌, Bool, true, false, Option, Some, None, is_some}
 use Rattle.sls_base.specs.declared.limits.TheConstants.{LAST_VERSION, OBJECTS, PAGES}
 use Rattle.kobj_codec.specs.declared.obj.Obj.{Obj}
 use Rattle.pmem_layout.specs.declared.number.Number.TheVariants.{Object}
@@ -15,6 +15,11 @@ pub record IsToWrite (now saved : Option Obj) : Type 0 where
   pub obj : Obj
   pub is : now ≡ Some obj
   pub other : saved ≢ Some obj
+
+-- What is found of a record, whether it is to be written: if not, it is the saved one, or there is none.
+abbrev pub IsFound : Bool → Option Obj → Option Obj → Type 0
+IsFound true now saved = IsToWrite now saved
+IsFound false now saved = (now ≡ saved) ⊎ (now ≡ None)
 
 -- A checkpoint may begin: there is one more version, all is at rest, no core prepares a page, and the numbers in use of
 -- what is saved are those of its objects.
