@@ -10,3 +10,7 @@ pub mod Running
 pub mod Founds
 pub mod Begins
 pub mod BeginTurns
+pub mod Freshens
+pub mod Contents
+pub mod Slots
+pub mod Saving

@@ -4,3 +4,4 @@ pub mod First
 pub mod Turns
 pub mod Begins
 pub mod Sweep
+pub mod Saving
