@@ -16,6 +16,7 @@ use Rattle.plain_model.specs.Worlds.{World, has_page, put_count}
 use Rattle.plain_model.specs.Sweep.{is_reached, swept}
 use Rattle.plain_laws.specs.Fixed.{HasFixedObjects}
 use Rattle.plain_laws.specs.Bounds.{HasRoom}
+use Rattle.plain_laws.specs.Whole.{IsSound}
 use Rattle.kobj_table.specs.declared.slot.Slot.{Slot}
 use Rattle.kobj_table.specs.declared.objects.Objects.{Objects}
 use Rattle.kobj_table.specs.Objects.{Rest, slot_at, state_of, HasNoStrays}
@@ -101,6 +102,36 @@ room_same w s t same room = record {
   ring = λ channel. rw (same channel) (room.ring channel);
   count = λ channel. rw (same channel) (room.count channel);
 }
+
+-- A sound world is sound at its first version too.
+pub at_first : (w : World) → IsSound w → IsSound (record w { version = 0 })
+at_first w sound = record {
+  placed = sound.placed;
+  present = sound.present;
+  in_range = sound.in_range;
+  forms = sound.forms;
+  names = sound.names;
+  apart = sound.apart;
+  fixed = sound.fixed;
+  entries = sound.entries;
+  pages = sound.pages;
+  threads = sound.threads;
+  order = record { released = sound.order.released; saved = sound.order.saved };
+  room = record { now = room_first w w.now sound.room.now; saved = room_first w w.saved sound.room.saved; version = omega arith };
+  saved = record { swept = sound.saved.swept; objects = sound.saved.objects; pages = sound.saved.pages };
+  tracked = record {
+    objects = sound.tracked.objects;
+    queue = sound.tracked.queue;
+    cores = sound.tracked.cores;
+    rings = sound.tracked.rings;
+    pages = sound.tracked.pages;
+    changed = sound.tracked.changed;
+    stored = sound.tracked.stored;
+  };
+}
+  where
+    room_first : (w : World) (s : State) → HasRoom w s → HasRoom (record w { version = 0 }) s
+    room_first w s room = record { accepted = room.accepted; ring = room.ring; count = room.count }
 
 pub can_be_saved : (o n : Objects) (r : Rooms) (rest : Rest) (pages : ℕ → Option (ℕ → ℕ)) (w : World) → IsRunning o rest pages w → ReadAsZeros r rest.content
     → IsSoundState (state_of o rest) → IsSoundState (swept (state_of o rest)) → swept (swept (state_of o rest)) ≡ swept (state_of o rest)

@@ -1,6 +1,6 @@
 -- Which running objects can be saved once they are swept.
 use Rattle.std.specs.Prelude.{◌≡◌, ℕ, ◌<◌, true, length, Option, None, is_some, if◌then◌else◌}
-use Rattle.sls_base.specs.declared.limits.TheConstants.{LAST_VERSION, OUTPUT_CHANNELS, PAGES}
+use Rattle.sls_base.specs.declared.limits.TheConstants.{OUTPUT_CHANNELS, PAGES}
 use Rattle.plain_model.specs.Objects.{page_of_channel}
 use Rattle.plain_model.specs.Worlds.{World}
 use Rattle.plain_laws.specs.Whole.{IsSound}
@@ -13,12 +13,10 @@ use Rattle.call_readings.specs.Kernel.{CountsEntries}
 use Rattle.out_gate.specs.Entries.{EntriesStand}
 use Rattle.saved_state.specs.State.{content_of}
 
--- Objects run as a sound world that isn't at its last version. Each page on which they have content has words, and its
--- number stands for these. The rings count the entries that were put, and those that the device hasn't accepted stand
--- on pages that have content.
+-- Objects run as a sound world. Each page on which they have content has words, and its number stands for these. The
+-- rings count the entries that were put, and those that the device hasn't accepted stand on pages that have content.
 pub record IsRunning (o : Objects) (rest : Rest) (pages : ℕ → Option (ℕ → ℕ)) (w : World) : Type 0 where
   pub sound : IsSound w
-  pub version : w.version < LAST_VERSION
   pub now : w.now ≡ state_of o rest
   pub slots : HasFixedSlots o
   pub strays : HasNoStrays o

@@ -1,11 +1,11 @@
 use Rattle.std.specs.Prelude.{◌≡◌, ◌&&◌, not, ℕ, Bool, List, []}
-use Rattle.std.proofs.Common.{ap, subst, ◌∙◌}
+use Rattle.std.proofs.Common.{ap, subst, ◌∙◌, arith}
 use Rattle.std.proofs.lemmas.Bool.{lt-ltb}
 use Rattle.sls_base.specs.declared.limits.TheConstants.{PAGES}
 use Rattle.link_lists.specs.Lists.{list_at}
 use Rattle.page_store.specs.Stages.{stage_of}
 use Rattle.plain_model.specs.Sweep.{swept}
-use Rattle.plain_model.specs.Worlds.{has_page}
+use Rattle.plain_model.specs.Worlds.{World, has_page}
 use Rattle.kobj_table.specs.Objects.{Rest, state_of}
 use Rattle.object_records.specs.Pages.{is_content}
 use Rattle.object_records.specs.Records.{record_at}
@@ -13,7 +13,7 @@ use Rattle.plain_state.specs.declared.label.Label.{Label}
 use Rattle.plain_model.specs.States.{State}
 use Rattle.plain_model.specs.Play.{commit}
 use Rattle.object_records.specs.Ranges.{IsSoundState}
-use Rattle.leader_helper.proofs.Saving.{can_be_saved}
+use Rattle.leader_helper.proofs.Saving.{at_first, can_be_saved}
 use Rattle.leader_helper.specs.Sweep.{freshened, is_zeroed_alone, is_zeroed_below}
 use Rattle.leader_helper.proofs.Freshens.{and_all}
 use Rattle.leader_helper.proofs.Contents.{content_left, rings_in_place}
@@ -46,8 +46,9 @@ returns c =
           ∙ ap (λ (b : Bool). is_content (record_at old) page && has_page (swept (state_of old rest)) page && not b) same;
       saved = λ rest pages w running zeros.
           let s = state_of old rest in
-          let after = c.worlds_are_sound.ensures.kept w Label.Commit running.version tt running.sound in
-          let sound_after : IsSoundState (swept s) = subst (λ (t : State). IsSoundState (swept t)) running.now (c.sound_objects_have_records.ensures.sound (commit w) after).0 in
+          let first : World = record w { version = 0 } in
+          let after = c.worlds_are_sound.ensures.kept first Label.Commit (omega arith) tt (at_first w running.sound) in
+          let sound_after : IsSoundState (swept s) = subst (λ (t : State). IsSoundState (swept t)) running.now (c.sound_objects_have_records.ensures.sound (commit first) after).0 in
           let sound : IsSoundState s = subst IsSoundState running.now (c.sound_objects_have_records.ensures.sound w running.sound).0 in
           can_be_saved old new r rest pages w running zeros sound sound_after (c.sweep_is_idempotent.ensures s)
           (c.freshen_pages.ensures.state rest zeros ∙ c.sweep.ensures.state rest)
