@@ -14,3 +14,4 @@ pub mod Freshens
 pub mod Contents
 pub mod Slots
 pub mod Saving
+pub mod Runs

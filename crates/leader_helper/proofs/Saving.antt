@@ -77,7 +77,7 @@ content_kept o pages page offset is =
     (kept_is o pages page is)
 
 -- An entry that waits is on no page of zeros.
-no_zeros : (byte : ℕ → ℕ) (number : ℕ) (entry : List ℕ) → HasEntry byte number entry → ((offset : ℕ) → byte offset ≡ 0) → ⊥
+pub no_zeros : (byte : ℕ → ℕ) (number : ℕ) (entry : List ℕ) → HasEntry byte number entry → ((offset : ℕ) → byte offset ≡ 0) → ⊥
 no_zeros byte number entry has zeros =
     let none : 0 ≡ length entry = number_of_zeros byte (entry_at number) WORD_BYTES zeros ∙ has.size in
     let some = has.some in

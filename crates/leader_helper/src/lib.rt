@@ -6,6 +6,7 @@ mod finding;
 pub mod laws;
 mod leader;
 mod records;
+pub mod saved;
 mod stage;
 mod sweeping;
 mod turns;
