@@ -1,0 +1,5 @@
+pub mod Putting
+pub mod Reading
+pub mod Forgetting
+pub mod Turns
+pub mod Ends

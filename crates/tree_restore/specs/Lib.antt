@@ -1,0 +1,3 @@
+pub mod Restores
+pub mod Whole
+pub mod Contents
