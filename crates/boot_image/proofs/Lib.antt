@@ -1,0 +1,9 @@
+pub mod Firsts
+pub mod Words
+pub mod RegionLoop
+pub mod ProgramLoop
+pub mod RegionFacts
+pub mod RegionsSaid
+pub mod ProgramsSaid
+pub mod ImagesSaid
+pub mod CodeImages
