@@ -15,9 +15,9 @@ use Rattle.alloc_journal.specs.Work.{IsExact, Work}
 use Rattle.object_root.specs.Format.{ObjectsStand}
 use Rattle.durable_state.specs.Parts.{Parts}
 
--- The parts are those of a sound state: with some bytes of pages, entries and inputs, that is what the records stand for.
--- Of each object that there is the number is in use, and words are told of the pages on which records have content, and
--- of no others.
+-- The parts are those of a sound state: with some bytes of pages, entries and inputs, that is what the records stand
+-- for. Of each object that there is the number is in use, and words are told of the pages on which records have content,
+-- and of no others.
 pub record AreWhole (p : Parts) : Type 0 where
   pub rest : Rest
   pub sound : IsSoundState (state_of_records p.objects rest)
@@ -31,8 +31,8 @@ pub record CanBeRead (words : ℕ → ℕ) (work : Work) (version : ℕ) (saved 
   pub numbers : IsExact work saved.numbers
   pub stand : ObjectsStand words version saved.objects
 
--- Nothing stands at the numbers from one on, and their lists are empty. Each list that has threads is that of what stands
--- at its number.
+-- Nothing stands at the numbers from one on, and their lists are empty. Each list that has threads is that of what
+-- stands at its number.
 pub record AreEmptyFrom (o : Objects) (count : ℕ) : Type 0 where
   pub slots : (i : ℕ) → count ≤ i → slot_at o i ≡ Empty
   pub lists : (i : ℕ) → count ≤ i → list_at o.links i ≡ []

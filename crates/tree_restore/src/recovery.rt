@@ -57,8 +57,9 @@ impl Recovery {
     /// Recovery begins, of a memory in which nothing but the durable words is left.
     pub fn new(nvm: &Pmem) -> Recovery
         ensures left { turns_left result ≤ RECOVERY_TURNS }
-        ensures shows { (v : ℕ) (saved : Parts) → IsAllClean (word_at nvm.now) → (word_at nvm.now VERSION_AT).durable ≡ v
-            → PartsStand (durable_words (word_at nvm.now)) v saved → RestoreShows result (word_at nvm.now) v saved }
+        ensures shows { (v : ℕ) (saved : Parts) → IsAllClean (word_at nvm.now)
+            → (word_at nvm.now VERSION_AT).durable ≡ v → PartsStand (durable_words (word_at nvm.now)) v saved
+            → RestoreShows result (word_at nvm.now) v saved }
     {
         // No greater one is ever committed.
         let version = version_commit::version(nvm).min(LAST_VERSION);
