@@ -1,16 +1,15 @@
 -- Images of code are accepted.
-use Rattle.std.proofs.Common.{subst, ◌≡◌, ℕ, zero, suc, ◌+◌, ◌*◌, ◌^◌, ◌<◌, ◌≤◌, true, List, [], ◌∷◌, ◌++◌, length, refl, sym, ap, ◌∙◌, arith}
+use Rattle.std.proofs.Common.{◌≡◌, ℕ, ◌*◌, ◌≤◌, List, [], ◌∷◌, length, refl, sym, ap, subst, ◌∙◌, arith}
 use Rattle.std.specs.Prelude.{map, sum_by, Any}
-use Rattle.std.specs.List.{flat_map, AllPairs, AllByRecursion}
+use Rattle.std.specs.List.{flat_map, AllByRecursion}
 use Rattle.std.proofs.lemmas.List.{length-append, length-map}
 use Rattle.std.proofs.lemmas.List.Concat.{flat_map-cons}
 use Rattle.std.proofs.lemmas.List.Elements.{All-from_recursion}
 use Rattle.std.proofs.lemmas.List.Sums.{sum_by-cons}
-use Rattle.sls_base.specs.declared.limits.TheConstants.{PAGE_BYTES}
 use Rattle.sls_base.specs.declared.image.Image.{Image}
 use Rattle.sls_base.specs.declared.image.Program.{Program}
 use Rattle.sls_base.specs.declared.image.RegionSpec.{RegionSpec}
-use Rattle.plain_model.specs.Initial.{IsRegion, IsApart, IsEntered, IsProgram, IsAccepted, program_size as program_objects, program_pages, pages_taken}
+use Rattle.plain_model.specs.Initial.{IsRegion, IsEntered, IsProgram, IsAccepted, program_size as program_objects, program_pages}
 use Rattle.boot_image.specs.Spelling.{word}
 use Rattle.boot_image.specs.Values.{RegionValue, ProgramValue, region_value, program_value}
 use Rattle.boot_image.specs.Made.{code_program, made_words}
@@ -37,10 +36,10 @@ one_of [] value e = absurd cc
 one_of (r ∷ []) value e = record { only = r; list = refl; is = cc }
 one_of (r ∷ s ∷ more) value e = absurd cc
 
-pub record IsMade (count : ℕ) (p : Program) : Type 0 where
+pub record IsMade (size : ℕ) (p : Program) : Type 0 where
   pub program : IsProgram p
   pub objects : program_objects p ≡ 4
-  pub pages : program_pages p ≡ count
+  pub pages : program_pages p ≡ size
 
 code_made : (pages : ℕ) (p : Program) → 1 ≤ pages → pages ≤ 16 → IsCode pages p → IsMade pages p
 unfolding code_program
@@ -75,16 +74,16 @@ code_made pages p some few code =
         apart = rw one.list (λ i j d lt under. absurd (omega arith));
         channels = omega arith;
         entry = rw entry-is refl;
-        entered = subst (λ (specs : List RegionSpec). Any (IsEntered p) specs) (sym one.list) (0, s, omega arith, refl, entered);
+        entered = subst (λ (xs : List RegionSpec). Any (IsEntered p) xs) (sym one.list) (0, s, omega arith, refl, entered);
       };
       objects = rw (one.list, threads-is) refl;
       pages = rw one.list (omega (arith, pages-is));
     }
 
-pub record AreMade (ps : List Program) : Type 0 where
-  pub programs : AllByRecursion IsProgram ps
-  pub objects : sum_by program_objects ps ≡ 4 * length ps
-  pub pages : sum_by program_pages ps ≤ 16 * length ps
+pub record AreMade (list : List Program) : Type 0 where
+  pub programs : AllByRecursion IsProgram list
+  pub objects : sum_by program_objects list ≡ 4 * length list
+  pub pages : sum_by program_pages list ≤ 16 * length list
 
 are_made : (pages : ℕ) (programs : List Program) → 1 ≤ pages → pages ≤ 16 → AllByRecursion (IsCode pages) programs → AreMade programs
 are_made pages [] some few code = record { programs = tt; objects = refl; pages = omega arith }

@@ -1,9 +1,9 @@
 -- The first broken rule of some.
-use Rattle.std.proofs.Common.{◌≡◌, ℕ, Bool, true, false, List, [], ◌∷◌, Option, Some, None, Result, Ok, Err, refl}
+use Rattle.std.proofs.Common.{◌≡◌, ℕ, Bool, true, false, List, [], ◌∷◌, Option, Some, None, refl}
 use Rattle.boot_image.specs.declared.fault.ImageCause.{ImageCause}
 use Rattle.boot_image.specs.declared.fault.ImageError.{ImageError}
 use Rattle.boot_image.specs.declared.fault.ImageError.TheVariants as errors
-use Rattle.boot_image.specs.Rules.{Fault, unless, first, Gives, Refuses}
+use Rattle.boot_image.specs.Rules.{Fault, unless, first, Refuses}
 
 -- one rule alone
 pub first_one : (f : Option Fault) → first (f ∷ []) ≡ f
@@ -81,8 +81,3 @@ six_none a b c d f g e =
     let y = first_parts b (c ∷ d ∷ f ∷ g ∷ []) x.1 in
     let z = four_none c d f g y.1 in
     (x.0, y.0, z.0, z.1, z.2, z.3)
-
--- an error that is handed on tells the same fault
-pub handed_on : {X Y : Type 0} (view : X → Y) (r : Result X ImageError) (e made : ImageError) (fault : Option Fault) (value : Y) → r ≡ Err made → made ≡ e
-    → Refuses e fault → Gives view r fault value
-handed_on view r e made fault value is same h = rw (is, same) h

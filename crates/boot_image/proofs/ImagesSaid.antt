@@ -1,6 +1,6 @@
 -- What the bytes of an image say, where no rule is broken.
-use Rattle.std.proofs.Common.{◌≡◌, ℕ, ◌+◌, ◌*◌, ◌<◌, ◌≤◌, ◌==◌, ◌&&◌, Bool, nat_le, List, [], ◌∷◌, ◌++◌, length, drop, None, refl, sym, ap, ◌∙◌, arith}
-use Rattle.std.specs.Prelude.{map, codes, IfOk, Ok, Err, Result}
+use Rattle.std.proofs.Common.{◌≡◌, ℕ, ◌+◌, ◌≤◌, ◌==◌, ◌&&◌, Bool, nat_le, List, [], ◌∷◌, ◌++◌, length, drop, None, refl, ap, ◌∙◌, arith}
+use Rattle.std.specs.Prelude.{IfOk, Ok, Err, Result}
 use Rattle.std.specs.List.{flat_map}
 use Rattle.std.proofs.lemmas.Bool.{leb-true, eqb-true, and_parts}
 use Rattle.std.proofs.lemmas.List.{drop_all, append-nil, length-drop}
@@ -9,12 +9,12 @@ use Rattle.sls_base.specs.declared.fixed.TheConstants.{FIRST_PROGRAM_OBJECT, FIR
 use Rattle.sls_base.specs.declared.image.Image.{Image}
 use Rattle.sls_base.specs.declared.image.Program.{Program}
 use Rattle.plain_model.specs.declared.image.TheConstants.{PROGRAMS}
-use Rattle.plain_model.specs.Initial.{IsProgram, IsAccepted}
+use Rattle.plain_model.specs.Initial.{IsProgram}
 use Rattle.boot_image.specs.declared.format.TheConstants.{MAGIC, FORMAT, IMAGE_BYTES}
 use Rattle.boot_image.specs.declared.fault.ImageCause.TheVariants.{Magic, Version, Length, Count}
 use Rattle.boot_image.specs.declared.fault.ImageError.{ImageError}
 use Rattle.boot_image.specs.Spelling.{word, program_bytes, image_bytes}
-use Rattle.boot_image.specs.Values.{program_value, programs_of, word_at, programs_at, programs_size}
+use Rattle.boot_image.specs.Values.{programs_of, word_at, programs_at, programs_size}
 use Rattle.boot_image.specs.Rules.{Gives, unless, field}
 use Rattle.boot_image.specs.Images.{IsImageBytes, header_fault, image_fault, image_size}
 use Rattle.boot_image.specs.Programs.{programs_fault}
@@ -52,11 +52,6 @@ holds bytes e =
 pub image_text : (image : Image) → word MAGIC ++ (word FORMAT ++ (word (length image.programs.items) ++ flat_map program_bytes image.programs.items)) ≡ image_bytes image
 unfolding word image_bytes
 image_text image = refl
-
--- the same, put together from the front
-pub image_text_from_front : (image : Image) → word MAGIC ++ word FORMAT ++ word (length image.programs.items) ++ flat_map program_bytes image.programs.items ≡ image_bytes image
-unfolding word image_bytes
-image_text_from_front image = refl
 
 pub image_said : (bytes : List ℕ) (image : Image) → IsBytes bytes → image_fault bytes ≡ None
     → programs_of image ≡ programs_at (word_at 8 bytes) (drop 12 bytes) → IsImageBytes bytes image

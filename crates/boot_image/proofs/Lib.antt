@@ -7,3 +7,6 @@ pub mod RegionsSaid
 pub mod ProgramsSaid
 pub mod ImagesSaid
 pub mod CodeImages
+pub mod RegionsAgain
+pub mod ProgramsAgain
+pub mod ImagesAgain

@@ -1,10 +1,9 @@
 -- Reading programs one after another, as a loop does.
-use Rattle.std.proofs.Common.{◌≡◌, ℕ, zero, suc, ◌+◌, ◌-◌, ◌<◌, ◌≤◌, List, [], ◌∷◌, ◌++◌, drop, Option, Some, None, refl, sym, ap, ◌∙◌, append_assoc, arith}
+use Rattle.std.proofs.Common.{◌≡◌, ℕ, suc, ◌+◌, ◌-◌, ◌<◌, ◌≤◌, List, [], ◌∷◌, ◌++◌, drop, None, refl, sym, ap, ◌∙◌, append_assoc, arith}
 use Rattle.std.proofs.lemmas.List.{drop-drop, append-nil}
 use Rattle.boot_image.specs.declared.fault.ImageError.{ImageError}
-use Rattle.boot_image.specs.declared.fault.ImageError.TheVariants as errors
 use Rattle.boot_image.specs.Values.{ProgramValue, program_at, program_size, programs_at, programs_size, pages_of, objects_of}
-use Rattle.boot_image.specs.Rules.{Fault, first, Refuses}
+use Rattle.boot_image.specs.Rules.{Refuses}
 use Rattle.boot_image.specs.Programs.{program_fault, programs_fault}
 use Rattle.boot_image.proofs.Firsts.{first_one, refused_first}
 
@@ -13,13 +12,6 @@ pub record IsReadTo (count at objects pages : ℕ) (bytes : List ℕ) (left done
   pub fault : programs_fault left (at + done) used taken (drop done bytes) ≡ programs_fault count at objects pages bytes
   pub said : programs ++ programs_at left (drop done bytes) ≡ programs_at count bytes
   pub size : done + programs_size left (drop done bytes) ≡ programs_size count bytes
-
-pub begins : (count at objects pages : ℕ) (bytes : List ℕ) → IsReadTo count at objects pages bytes count 0 objects pages []
-begins count at objects pages bytes = record {
-  fault = ap (λ (k : ℕ). programs_fault count k objects pages bytes) (omega arith);
-  said = refl;
-  size = omega arith;
-}
 
 pub steps : (count at objects pages : ℕ) (bytes : List ℕ) (n size used taken : ℕ) (programs : List ProgramValue)
     → IsReadTo count at objects pages bytes (suc n) size used taken programs

@@ -1,5 +1,5 @@
 -- What the bytes of programs say, where no rule is broken.
-use Rattle.std.proofs.Common.{◌≡◌, ℕ, zero, suc, ◌+◌, ◌*◌, ◌%◌, ◌^◌, ◌<◌, ◌≤◌, Bool, true, false, ◌&&◌, ◌==◌, nat_le, nat_lt, List, [], ◌∷◌, ◌++◌, length, get_or, drop, None, refl, sym, ap, ◌∙◌, append_assoc, arith, inl, inr}
+use Rattle.std.proofs.Common.{◌≡◌, ℕ, zero, suc, ◌+◌, ◌*◌, ◌%◌, ◌≤◌, true, ◌&&◌, ◌==◌, nat_le, nat_lt, List, [], ◌∷◌, ◌++◌, length, drop, None, refl, sym, ap, ◌∙◌, append_assoc, arith, inl, inr}
 use Rattle.std.specs.Prelude.{map, sum_by, Any}
 use Rattle.std.specs.List.{list_any, flat_map, AllByRecursion}
 use Rattle.std.proofs.lemmas.Bool.{leb-true, ltb-true, eqb-true, and_parts}
@@ -12,13 +12,13 @@ use Rattle.sls_base.specs.declared.rights.TheConstants.{EXECUTE}
 use Rattle.sls_base.specs.declared.image.Program.{Program}
 use Rattle.sls_base.specs.declared.image.RegionSpec.{RegionSpec}
 use Rattle.plain_model.specs.declared.image.TheConstants.{PROGRAM_THREADS, PROGRAM_REGIONS}
-use Rattle.plain_model.specs.Initial.{IsRegion, IsApart, IsEntered, IsProgram, program_size as program_objects, program_pages, pages_taken}
+use Rattle.plain_model.specs.Initial.{IsRegion, IsEntered, IsProgram, program_size as program_objects, program_pages, pages_taken}
 use Rattle.sls_base.specs.Rights.{has_rights}
 use Rattle.boot_image.specs.declared.fault.ImageCause.TheVariants.{Length, Count, Channel, Entry}
 use Rattle.boot_image.specs.declared.format.TheConstants.{ALL_CHANNELS}
-use Rattle.boot_image.specs.Spelling.{word, region_bytes, program_bytes}
+use Rattle.boot_image.specs.Spelling.{region_bytes, program_bytes}
 use Rattle.boot_image.specs.Values.{RegionValue, ProgramValue, region_value, program_value, word_at, region_size, regions_at, regions_size, program_at, program_size, programs_at, programs_size, objects_of, pages_of}
-use Rattle.boot_image.specs.Rules.{unless, first, field}
+use Rattle.boot_image.specs.Rules.{unless, field}
 use Rattle.boot_image.specs.Regions.{regions_fault}
 use Rattle.boot_image.specs.Programs.{threads_fault, channels_fault, count_fault, is_entered, may_begin, program_fault, programs_fault}
 use Rattle.boot_image.proofs.Firsts.{one_holds, two_hold, two_none, six_none, unless_holds}
@@ -155,11 +155,7 @@ pub record AreSaid (n used taken : ℕ) (bytes : List ℕ) (list : List Program)
   pub objects : used + sum_by program_objects list ≤ OBJECTS
   pub pages : taken + sum_by program_pages list ≤ PAGES
 
-same_count : (specs : List RegionSpec) → length (map region_value specs) ≡ length specs
-same_count [] = refl
-same_count (s ∷ ss) = ap suc (same_count ss)
-
-pages_same : (specs : List RegionSpec) → pages_of (map region_value specs) ≡ sum_by pages_taken specs
+pub pages_same : (specs : List RegionSpec) → pages_of (map region_value specs) ≡ sum_by pages_taken specs
 pages_same [] = refl
 pages_same (s ∷ ss) = omega (arith, pages_same ss, sum_by-cons pages_taken s ss, sum_by-cons (λ r. r.pages) (region_value s) (map region_value ss))
 
@@ -177,7 +173,7 @@ programs_said (suc n) at objects pages bytes (p ∷ ps) fits few_objects few_pag
     let ps-is : map program_value ps ≡ programs_at n (drop (program_size bytes) bytes) = cc in
     let said = program_said at objects pages bytes p fits few_pages (holds at objects pages bytes a.0) p-is in
     let objects-is : objects_of (program_at bytes) ≡ program_objects p =
-    ap objects_of (sym p-is) ∙ rw (same_count p.regions.items) refl in
+    ap objects_of (sym p-is) ∙ rw (length-map p.regions.items region_value) refl in
     let pages-is : pages_of (program_at bytes).regions ≡ program_pages p =
     ap (λ (v : ProgramValue). pages_of v.regions) (sym p-is) ∙ pages_same p.regions.items in
     let rest_holds : programs_fault n (at + program_size bytes) (objects + program_objects p) (pages + program_pages p) (drop (program_size bytes) bytes) ≡ None =

@@ -1,5 +1,5 @@
 -- What the rules of a region say of its numbers, and what its bytes are then.
-use Rattle.std.proofs.Common.{◌≡◌, ℕ, zero, suc, ◌+◌, ◌-◌, ◌*◌, ◌%◌, ◌^◌, ◌<◌, ◌≤◌, Bool, true, false, ◌&&◌, ◌==◌, nat_le, List, [], ◌∷◌, ◌++◌, length, take, drop, Option, Some, None, refl, sym, ap, ◌∙◌, append_assoc, arith}
+use Rattle.std.proofs.Common.{◌≡◌, ℕ, ◌+◌, ◌-◌, ◌*◌, ◌%◌, ◌^◌, ◌≤◌, true, ◌&&◌, ◌==◌, nat_le, List, [], ◌∷◌, ◌++◌, length, take, drop, None, refl, sym, ap, ◌∙◌, append_assoc, arith}
 use Rattle.std.specs.Prelude.{replicate}
 use Rattle.std.specs.List.{list_all}
 use Rattle.std.proofs.lemmas.Bool.{leb-true, le-leb, eqb-true, and_parts}
@@ -9,9 +9,8 @@ use Rattle.sls_base.specs.declared.rights.TheConstants.{REGION_RIGHTS}
 use Rattle.sls_base.specs.declared.image.RegionSpec.{RegionSpec}
 use Rattle.plain_model.specs.Initial.{IsRegion}
 use Rattle.boot_image.specs.declared.fault.ImageCause.TheVariants.{Length, Count, Region}
-use Rattle.boot_image.specs.Spelling.{word, padded, padding, region_bytes}
+use Rattle.boot_image.specs.Spelling.{padded, padding, region_bytes}
 use Rattle.boot_image.specs.Values.{RegionValue, region_value, word_at, region_at, region_size}
-use Rattle.boot_image.specs.Rules.{Fault, unless, first}
 use Rattle.boot_image.specs.Regions.{base_fault, pages_fault, rights_fault, length_fault, content_fault, overlap_fault, padding_at, is_apart_from, region_fault}
 use Rattle.boot_image.proofs.Firsts.{one_holds, three_hold, six_none, unless_holds}
 use Rattle.boot_image.proofs.Words.{IsBytes, four_words, four_again}

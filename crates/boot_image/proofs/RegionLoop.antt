@@ -1,11 +1,10 @@
 -- Reading regions one after another, as a loop does.
-use Rattle.std.proofs.Common.{◌≡◌, ℕ, zero, suc, ◌+◌, ◌-◌, ◌<◌, ◌≤◌, List, [], ◌∷◌, ◌++◌, drop, Option, Some, None, refl, sym, ap, ◌∙◌, append_assoc, arith}
+use Rattle.std.proofs.Common.{◌≡◌, ℕ, suc, ◌+◌, ◌-◌, ◌<◌, ◌≤◌, List, [], ◌∷◌, ◌++◌, drop, None, refl, sym, ap, ◌∙◌, append_assoc, arith}
 use Rattle.std.proofs.lemmas.List.{drop-drop, append-nil}
 use Rattle.std.proofs.lemmas.List.Sums.{sum_by-cons}
 use Rattle.boot_image.specs.declared.fault.ImageError.{ImageError}
-use Rattle.boot_image.specs.declared.fault.ImageError.TheVariants as errors
 use Rattle.boot_image.specs.Values.{RegionValue, region_at, region_size, regions_at, regions_size, pages_of}
-use Rattle.boot_image.specs.Rules.{Fault, first, Refuses}
+use Rattle.boot_image.specs.Rules.{Refuses}
 use Rattle.boot_image.specs.Regions.{region_fault, regions_fault}
 use Rattle.boot_image.proofs.Firsts.{first_one, refused_first}
 
@@ -15,14 +14,6 @@ pub record IsReadTo (count at pages : ℕ) (bytes : List ℕ) (left done taken :
   pub said : specs ++ regions_at left (drop done bytes) ≡ regions_at count bytes
   pub size : done + regions_size left (drop done bytes) ≡ regions_size count bytes
   pub sum : taken + pages_of (regions_at left (drop done bytes)) ≡ pages + pages_of (regions_at count bytes)
-
-pub begins : (count at pages : ℕ) (bytes : List ℕ) → IsReadTo count at pages bytes count 0 pages []
-begins count at pages bytes = record {
-  fault = ap (λ (k : ℕ). regions_fault count k [] pages bytes) (omega arith);
-  said = refl;
-  size = omega arith;
-  sum = refl;
-}
 
 pub steps : (count at pages : ℕ) (bytes : List ℕ) (n size taken : ℕ) (specs : List RegionValue)
     → IsReadTo count at pages bytes (suc n) size taken specs

@@ -1,6 +1,6 @@
 -- What the bytes of regions say, where no rule is broken.
-use Rattle.std.proofs.Common.{◌⊎◌, ◌≡◌, ℕ, zero, suc, ◌+◌, ◌*◌, ◌<◌, ◌≤◌, Bool, true, false, ◌&&◌, ◌||◌, nat_le, List, [], ◌∷◌, ◌++◌, length, get_or, drop, None, refl, sym, ap, ◌∙◌, append_assoc, arith, inl, inr}
-use Rattle.std.specs.Prelude.{map, sum_by}
+use Rattle.std.proofs.Common.{◌≡◌, ℕ, zero, suc, ◌+◌, ◌*◌, ◌<◌, ◌≤◌, Bool, true, false, ◌||◌, nat_le, List, [], ◌∷◌, ◌++◌, length, get_or, drop, None, refl, sym, ap, ◌∙◌, append_assoc, arith, inl, inr}
+use Rattle.std.specs.Prelude.{map, sum_by, ◌⊎◌}
 use Rattle.std.specs.List.{list_all, flat_map, AllPairs, AllByRecursion}
 use Rattle.std.proofs.lemmas.Bool.{leb-true, and_parts}
 use Rattle.std.proofs.lemmas.List.{append-nil, drop-drop, map_push}
@@ -16,7 +16,7 @@ use Rattle.boot_image.specs.Rules.{first}
 use Rattle.boot_image.specs.Regions.{is_apart_from, region_fault, regions_fault}
 use Rattle.boot_image.proofs.Firsts.{two_none}
 use Rattle.boot_image.proofs.Words.{IsBytes, IsBytes-drop}
-use Rattle.boot_image.proofs.RegionFacts.{Holds, holds, region_said}
+use Rattle.boot_image.proofs.RegionFacts.{holds, region_said}
 
 -- the test of the rule, for an earlier region
 apart_at : (base pages : ℕ) (before : List RegionSpec) (k : ℕ) (d : RegionSpec) → k < length before

@@ -6,7 +6,8 @@ use Rattle.boot_image.specs.declared.format.TheConstants.{ALL_CHANNELS}
 use Rattle.boot_image.specs.Spelling.{word}
 use Rattle.boot_image.specs.Values.{ProgramValue}
 
--- a program of code words, in pages from address 0 on with every right, with one thread that begins there, and all channels
+-- a program of code words, in pages from address 0 on with every right, with one thread that begins there, and all
+-- channels
 unfoldable pub code_program : ℕ → List ℕ → ProgramValue
 code_program pages words = record {
   entry = 0;
@@ -15,8 +16,8 @@ code_program pages words = record {
   regions = record { base = 0; pages = pages; rights = REGION_RIGHTS; content = flat_map word words } ∷ [];
 }
 
--- The image that is made by a number has 8 programs. Program p adds its step to a cell of its memory as often as it has rounds,
--- and stores each sum in one of 8 pages; then it puts the last sum on a channel and halts, or yields and halts.
+-- The image that is made by a number has 8 programs. Program p adds its step to a cell of its memory as often as it has
+-- rounds, and stores each sum in one of 8 pages; then it puts the last sum on a channel and halts, or yields and halts.
 
 -- 1 to 1,024
 abbrev pub step_of : ℕ → ℕ → ℕ

@@ -1,5 +1,6 @@
 -- The rules of programs.
-use Rattle.std.specs.Prelude.{ℕ, zero, suc, ◌+◌, ◌*◌, ◌%◌, nat_le, nat_lt, ◌==◌, Bool, ◌&&◌, List, [], ◌∷◌, drop, Option, None}
+use Rattle.std.specs.Prelude.{ℕ, zero, suc, ◌+◌, ◌*◌, ◌%◌, nat_le, nat_lt, ◌==◌, Bool, ◌&&◌, List, [], ◌∷◌, drop}
+use Rattle.std.specs.Prelude.{Option, None}
 use Rattle.std.specs.List.{list_any}
 use Rattle.sls_base.specs.declared.limits.TheConstants.{PAGE_BYTES, OBJECTS, INSTRUCTION_BYTES}
 use Rattle.sls_base.specs.declared.rights.TheConstants.{EXECUTE}
@@ -7,7 +8,8 @@ use Rattle.sls_base.specs.Rights.{has_rights}
 use Rattle.plain_model.specs.declared.image.TheConstants.{PROGRAM_THREADS, PROGRAM_REGIONS}
 use Rattle.boot_image.specs.declared.fault.ImageCause.TheVariants.{Count, Channel, Entry}
 use Rattle.boot_image.specs.declared.format.TheConstants.{PROGRAM_HEADER_BYTES, ALL_CHANNELS}
-use Rattle.boot_image.specs.Values.{RegionValue, ProgramValue, word_at, program_at, program_size, objects_of, pages_of}
+use Rattle.boot_image.specs.Values.{RegionValue, word_at, program_at, program_size, objects_of}
+use Rattle.boot_image.specs.Values.{pages_of}
 use Rattle.boot_image.specs.Rules.{Fault, unless, first, field}
 use Rattle.boot_image.specs.Regions.{regions_fault}
 
@@ -16,7 +18,8 @@ use Rattle.boot_image.specs.Regions.{regions_fault}
 -- a program has 1 to 8 threads
 unfoldable pub threads_fault : ℕ → List ℕ → Option Fault
 threads_fault at bytes =
-    field at 4 bytes (unless (nat_le 1 (word_at 4 bytes) && nat_le (word_at 4 bytes) PROGRAM_THREADS) Count (at + 4) ∷ [])
+    field at 4 bytes (
+    unless (nat_le 1 (word_at 4 bytes) && nat_le (word_at 4 bytes) PROGRAM_THREADS) Count (at + 4) ∷ [])
 
 -- it names no channel that there isn't
 unfoldable pub channels_fault : ℕ → List ℕ → Option Fault

@@ -1,5 +1,6 @@
 -- The rules of regions.
-use Rattle.std.specs.Prelude.{ℕ, zero, suc, ◌+◌, ◌-◌, ◌*◌, ◌%◌, ◌^◌, nat_le, ◌==◌, Bool, ◌&&◌, ◌||◌, List, [], ◌∷◌, ◌++◌, length, take, drop, Option, None}
+use Rattle.std.specs.Prelude.{ℕ, zero, suc, ◌+◌, ◌-◌, ◌*◌, ◌%◌, ◌^◌, nat_le, ◌==◌, Bool, ◌&&◌, ◌||◌, List, [], ◌∷◌}
+use Rattle.std.specs.Prelude.{◌++◌, length, take, drop, Option, None}
 use Rattle.std.specs.List.{list_all}
 use Rattle.sls_base.specs.declared.limits.TheConstants.{PAGE_BYTES, MEMORY_PAGES, PAGES}
 use Rattle.sls_base.specs.declared.rights.TheConstants.{REGION_RIGHTS}
@@ -25,7 +26,8 @@ pages_fault at pages bytes = field at 4 bytes (
 -- it has some rights
 unfoldable pub rights_fault : ℕ → List ℕ → Option Fault
 rights_fault at bytes =
-    field at 8 bytes (unless (nat_le 1 (word_at 8 bytes) && nat_le (word_at 8 bytes) REGION_RIGHTS) Region (at + 8) ∷ [])
+    field at 8 bytes (
+    unless (nat_le 1 (word_at 8 bytes) && nat_le (word_at 8 bytes) REGION_RIGHTS) Region (at + 8) ∷ [])
 
 -- its content fits its pages
 unfoldable pub length_fault : ℕ → List ℕ → Option Fault
@@ -41,6 +43,10 @@ is_apart_from base pages r =
 abbrev pub overlap_fault : ℕ → List RegionValue → List ℕ → Option Fault
 overlap_fault at earlier bytes = unless (list_all (is_apart_from (word_at 0 bytes) (word_at 4 bytes)) earlier) Region at
 
+-- each byte is zero
+abbrev pub are_zero : List ℕ → Bool
+are_zero bytes = list_all (λ byte. byte == 0) bytes
+
 -- the bytes behind content of this length, up to a multiple of 4
 abbrev pub padding_at : ℕ → List ℕ → List ℕ
 padding_at n bytes = take (padded n - n) (drop n (drop REGION_HEADER_BYTES bytes))
@@ -49,7 +55,7 @@ padding_at n bytes = take (padded n - n) (drop n (drop REGION_HEADER_BYTES bytes
 unfoldable pub content_fault : ℕ → List ℕ → Option Fault
 content_fault at bytes = first (
     unless (nat_le (region_size bytes) (length bytes)) Length (at + REGION_HEADER_BYTES)
-    ∷ unless (list_all (λ byte. byte == 0) (padding_at (word_at 12 bytes) bytes)) Length (at + REGION_HEADER_BYTES) ∷ [])
+    ∷ unless (are_zero (padding_at (word_at 12 bytes) bytes)) Length (at + REGION_HEADER_BYTES) ∷ [])
 
 -- the rules of a region behind others of its program
 unfoldable pub region_fault : ℕ → List RegionValue → ℕ → List ℕ → Option Fault

@@ -1,5 +1,6 @@
 -- Rules in their order, and the first that is broken.
-use Rattle.std.specs.Prelude.{◌≡◌, ℕ, ◌+◌, nat_le, Bool, if◌then◌else◌, List, [], ◌∷◌, length, Option, Some, None, Result, Ok, Err}
+use Rattle.std.specs.Prelude.{◌≡◌, ℕ, ◌+◌, nat_le, Bool, if◌then◌else◌, List, [], ◌∷◌, length, Option, Some, None}
+use Rattle.std.specs.Prelude.{Result, Ok, Err}
 use Rattle.boot_image.specs.declared.fault.ImageCause.{ImageCause}
 use Rattle.boot_image.specs.declared.fault.ImageCause.TheVariants.{Length}
 use Rattle.boot_image.specs.declared.fault.ImageError.{ImageError}

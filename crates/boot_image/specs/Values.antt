@@ -38,8 +38,8 @@ programs_of image = map program_value image.programs.items
 unfoldable pub word_at : ℕ → List ℕ → ℕ
 word_at k bytes = little_number 4 (drop k bytes)
 
--- The region that bytes begin with, and how many of them it takes. Where its length isn't kept it is no region, and what is
--- said here doesn't matter.
+-- The region that bytes begin with, and how many of them it takes. Where they break a rule of regions it is of no use
+-- to know what they say.
 unfoldable pub region_at : List ℕ → RegionValue
 region_at bytes = record {
   base = word_at 0 bytes;

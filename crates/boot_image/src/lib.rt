@@ -5,6 +5,7 @@
 mod fault;
 mod field;
 mod format;
+mod laws;
 mod made;
 mod program;
 mod reading;
@@ -13,6 +14,7 @@ mod writing;
 
 pub use fault::{ImageCause, ImageError};
 pub use format::IMAGE_BYTES;
+pub use laws::grammar;
 pub use made::{generated, of_code};
 pub use reading::read_image;
 pub use writing::write_image;

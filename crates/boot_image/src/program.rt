@@ -2,9 +2,11 @@
 
 ghost use Rattle.std.specs.Prelude.{◌≡◌, ◌+◌, ◌≤◌, ◌==◌, ℕ, List, [], length, map, drop, IfOk};
 ghost use Rattle.std.specs.List.{list_any};
-ghost use Rattle.boot_image.specs.Values.{ProgramValue, region_value, program_value, word_at, program_at, program_size, programs_at, programs_size, pages_of, objects_of};
+ghost use Rattle.boot_image.specs.Values.{ProgramValue, region_value, program_value, word_at, program_at};
+ghost use Rattle.boot_image.specs.Values.{program_size, programs_at, programs_size, pages_of, objects_of};
 ghost use Rattle.boot_image.specs.Rules.{Gives, field};
-ghost use Rattle.boot_image.specs.Programs.{threads_fault, channels_fault, count_fault, is_entered, may_begin, program_fault, programs_fault};
+ghost use Rattle.boot_image.specs.Programs.{threads_fault, channels_fault, count_fault, is_entered, may_begin};
+ghost use Rattle.boot_image.specs.Programs.{program_fault, programs_fault};
 
 use crate::fault::{ImageCause, ImageError, bad};
 use crate::field::number_at;
@@ -108,8 +110,8 @@ fn program_of(
     requires place { at + length bytes.now ≤ IMAGE_BYTES }
     requires objects { objects ≤ OBJECTS }
     requires pages { pages ≤ PAGES }
-    ensures read { Gives {Y = ProgramValue × ℕ} (λ x. (program_value x.0, x.1)) result (program_fault at objects pages bytes.now)
-        (program_at bytes.now, program_size bytes.now) }
+    ensures read { Gives {Y = ProgramValue × ℕ} (λ x. (program_value x.0, x.1)) result
+        (program_fault at objects pages bytes.now) (program_at bytes.now, program_size bytes.now) }
     ensures pages { IfOk result (λ x. x.2 ≡ pages + pages_of (program_at bytes.now).regions) }
     ensures few_pages { IfOk result (λ x. x.2 ≤ PAGES) }
     ensures few_objects { IfOk result (λ x. objects + objects_of (program_value x.0) ≤ OBJECTS) }

@@ -3,9 +3,11 @@
 ghost use Rattle.std.specs.Prelude.{◌≡◌, ◌+◌, ◌*◌, ◌≤◌, ◌<◌, ◌^◌, ◌==◌, ℕ, List, [], length, map, take, drop, IfOk};
 ghost use Rattle.std.specs.List.{list_all};
 ghost use Rattle.boot_image.specs.Spelling as spelling;
-ghost use Rattle.boot_image.specs.Values.{RegionValue, region_value, word_at, region_at, region_size, regions_at, regions_size, pages_of};
+ghost use Rattle.boot_image.specs.Values.{RegionValue, region_value, word_at, region_at, region_size, regions_at};
+ghost use Rattle.boot_image.specs.Values.{regions_size, pages_of};
 ghost use Rattle.boot_image.specs.Rules.{Gives};
-ghost use Rattle.boot_image.specs.Regions.{base_fault, pages_fault, rights_fault, length_fault, content_fault, is_apart_from, region_fault, regions_fault};
+ghost use Rattle.boot_image.specs.Regions.{base_fault, pages_fault, rights_fault, length_fault, content_fault};
+ghost use Rattle.boot_image.specs.Regions.{is_apart_from, region_fault, regions_fault};
 
 use crate::fault::{ImageCause, ImageError, bad};
 use crate::field::number_at;

@@ -1,5 +1,6 @@
 use super::*;
 use std::alloc::Global;
+use std::process::Abort;
 use std::test::*;
 
 /// The image of one code word, which jumps to itself.
@@ -23,54 +24,59 @@ fn one_word(rt: HostRuntime) -> Result<(), Fail> {
     Ok(())
 }
 
-/// Whether bytes are refused for this cause at this place.
-fn is_refused(alloc: Global, bytes: &[u8], cause: ImageCause, place: u32) -> bool {
+/// Asserts that bytes are refused for this cause at this place.
+fn refused(rt: &impl Abort, alloc: Global, bytes: &[u8], cause: ImageCause, place: u32) {
     match read_image(alloc, bytes) {
         Err(
             ImageError::Bad {
                 cause: found,
                 place: at,
             },
-        ) => found == cause && at == place,
-        _ => false,
+        ) => {
+            assert_eq!(rt; found, cause);
+            assert_eq!(rt; at, place);
+        }
+        _ => panic!(rt; "the bytes are refused"),
     }
 }
 
-/// `BYTES` with another byte at a place.
-fn with_byte(at: usize, byte: u8) -> [u8; 48] {
+/// The same of `BYTES` with another byte at a place.
+fn refused_with(
+    rt: &impl Abort,
+    alloc: Global,
+    at: usize,
+    byte: u8,
+    cause: ImageCause,
+    place: u32,
+) {
     let mut bytes = BYTES;
     if let Some(cell) = bytes.get_mut(at) {
         *cell = byte;
     }
-    bytes
+    refused(rt, alloc, &bytes, cause, place);
 }
 
 #[test]
 fn faults(rt: HostRuntime) {
-    let causes = [
-        (3, 0x4a, ImageCause::Magic, 0),
-        (4, 2, ImageCause::Version, 4),
-        (8, 17, ImageCause::Count, 8),
-        (12, 2, ImageCause::Entry, 12),
-        (16, 9, ImageCause::Count, 16),
-        (20, 64, ImageCause::Channel, 20),
-        (29, 1, ImageCause::Region, 28),
-        (32, 65, ImageCause::Region, 32),
-        (36, 8, ImageCause::Region, 36),
-        (40, 5, ImageCause::Length, 44),
-    ];
-    for (at, byte, cause, place) in causes {
-        assert!(rt; is_refused(rt.alloc(), &with_byte(at, byte), cause, place));
-    }
+    refused(&rt, rt.alloc(), &BYTES[..47], ImageCause::Length, 44);
+    refused(&rt, rt.alloc(), &[], ImageCause::Length, 0);
+    refused_with(&rt, rt.alloc(), 3, 0x4a, ImageCause::Magic, 0);
+    refused_with(&rt, rt.alloc(), 4, 2, ImageCause::Version, 4);
+    refused_with(&rt, rt.alloc(), 8, 17, ImageCause::Count, 8);
+    refused_with(&rt, rt.alloc(), 12, 2, ImageCause::Entry, 12);
+    refused_with(&rt, rt.alloc(), 16, 9, ImageCause::Count, 16);
+    refused_with(&rt, rt.alloc(), 20, 64, ImageCause::Channel, 20);
+    refused_with(&rt, rt.alloc(), 29, 1, ImageCause::Region, 28);
+    refused_with(&rt, rt.alloc(), 32, 65, ImageCause::Region, 32);
+    refused_with(&rt, rt.alloc(), 36, 8, ImageCause::Region, 36);
+    refused_with(&rt, rt.alloc(), 40, 5, ImageCause::Length, 44);
 }
 
 #[test]
-fn a_length_that_is_none(rt: HostRuntime) -> Result<(), Fail> {
-    assert!(rt; is_refused(rt.alloc(), &BYTES[..47], ImageCause::Length, 44));
-    assert!(rt; is_refused(rt.alloc(), &[], ImageCause::Length, 0));
+fn bytes_left_over(rt: HostRuntime) -> Result<(), Fail> {
     let mut bytes = Vec::from_slice(rt.alloc(), &BYTES)?;
     bytes.push(0)?;
-    assert!(rt; is_refused(rt.alloc(), &bytes, ImageCause::Length, 48));
+    refused(&rt, rt.alloc(), &bytes, ImageCause::Length, 48);
     Ok(())
 }
 

@@ -1,5 +1,4 @@
-use Rattle.std.proofs.Common.{◌≡◌, []}
-use Rattle.std.proofs.Common.{◌∷◌, arith, rules}
+use Rattle.std.proofs.Common.{[], ◌∷◌, arith, rules}
 use Rattle.boot_image.proofs.CodeImages.{code_accepted}
 use Rattle.boot_image.proofs.made.of_code.Goals as goal
 

@@ -1,4 +1,4 @@
-use Rattle.std.proofs.Common.{◌≡◌, ◌+◌, ℕ, List, length, drop, ap, ◌∙◌, arith}
+use Rattle.std.proofs.Common.{◌≡◌, ℕ, List, length, ap, ◌∙◌, arith}
 use Rattle.std.specs.Prelude.{map}
 use Rattle.boot_image.specs.Values.{RegionValue, region_value}
 use Rattle.boot_image.proofs.ProgramsSaid.{length-regions_at}
