@@ -13,6 +13,7 @@ ghost use Rattle.alloc_journal.specs.Format.{NumbersStand};
 ghost use Rattle.alloc_journal.specs.Work.{work_of, once_committed, is_redo, is_logging, is_formatting, log_left, redo_left, IsKept, IsExact};
 ghost use Rattle.alloc_journal.specs.Formatting.{FormatShows};
 ghost use Rattle.alloc_journal.specs.Operations.{AtMostOne};
+ghost use Rattle.pmem_operations.specs.Operations.{IsAtMostOne};
 ghost use Rattle.alloc_journal.specs.Shows.{NumbersShow};
 ghost use Rattle.alloc_journal.specs.Sets as sets;
 ghost use Rattle.alloc_journal.specs.Sets.{changes};
@@ -103,6 +104,7 @@ impl Journal {
         ensures homes { SameHomes nvm.old nvm.new }
         ensures counts { KeepsCounts nvm.old nvm.new }
         ensures one { AtMostOne nvm.old nvm.new }
+        ensures operation { IsAtMostOne LEADER (word_at nvm.old) (word_at nvm.new) }
         ensures rest { StoresOnlyIn Numbers (word_at nvm.old) (word_at nvm.new) }
         ensures last { IsTrue result ↔ (is_formatting self.new.stage ≡ false) }
         ensures begun { self.old.stage ≡ Unformatted → self.new.committed ≡ running.now }
@@ -178,6 +180,7 @@ impl Journal {
         ensures homes { SameHomes nvm.old nvm.new }
         ensures counts { KeepsCounts nvm.old nvm.new }
         ensures one { AtMostOne nvm.old nvm.new }
+        ensures operation { IsAtMostOne LEADER (word_at nvm.old) (word_at nvm.new) }
         ensures rest { StoresOnlyIn Numbers (word_at nvm.old) (word_at nvm.new) }
         ensures last { IsTrue result ↔ (self.new.stage ≡ Logged) }
         ensures logs { Logs running.now (work_of self.old) (word_at nvm.old) (work_of self.new) (word_at nvm.new) }
@@ -261,6 +264,7 @@ impl Journal {
         ensures homes { SameHomes nvm.old nvm.new }
         ensures counts { KeepsCounts nvm.old nvm.new }
         ensures one { AtMostOne nvm.old nvm.new }
+        ensures operation { IsAtMostOne LEADER (word_at nvm.old) (word_at nvm.new) }
         ensures rest { StoresOnlyIn Numbers (word_at nvm.old) (word_at nvm.new) }
         ensures stage { self.new.stage ≢ Logged }
         ensures stores { StoresOrFlushes (work_of self.old) (word_at nvm.old) (work_of self.new) (word_at nvm.new) }
@@ -306,6 +310,7 @@ impl Journal {
         ensures homes { SameHomes nvm.old nvm.new }
         ensures counts { KeepsCounts nvm.old nvm.new }
         ensures one { AtMostOne nvm.old nvm.new }
+        ensures operation { IsAtMostOne LEADER (word_at nvm.old) (word_at nvm.new) }
         ensures rest { StoresOnlyIn Numbers (word_at nvm.old) (word_at nvm.new) }
         ensures last { IsTrue result ↔ (is_redo self.new.stage ≡ false) }
         ensures redoes { Redoes (work_of self.old) (word_at nvm.old) (work_of self.new) (word_at nvm.new) }
@@ -357,6 +362,7 @@ impl Journal {
         ensures homes { SameHomes nvm.old nvm.new }
         ensures counts { KeepsCounts nvm.old nvm.new }
         ensures one { AtMostOne nvm.old nvm.new }
+        ensures operation { IsAtMostOne LEADER (word_at nvm.old) (word_at nvm.new) }
         ensures rest { StoresOnlyIn Numbers (word_at nvm.old) (word_at nvm.new) }
         ensures redo { is_redo self.new.stage ≡ true }
         ensures redoes { RedoesOrFlushes (work_of self.old) (word_at nvm.old) (work_of self.new) (word_at nvm.new) }
@@ -389,6 +395,7 @@ impl Journal {
         ensures homes { SameHomes nvm.old nvm.new }
         ensures counts { KeepsCounts nvm.old nvm.new }
         ensures one { AtMostOne nvm.old nvm.new }
+        ensures operation { IsAtMostOne LEADER (word_at nvm.old) (word_at nvm.new) }
         ensures rest { StoresOnlyIn Numbers (word_at nvm.old) (word_at nvm.new) }
         ensures stage { self.new.stage ≡ Redoing }
         ensures redoes { (entry : ℕ) → Says change entry

@@ -3,8 +3,10 @@
 ghost use Rattle.std.specs.Prelude.{◌≡◌, ◌+◌, ◌*◌, ◌%◌, ◌<◌, ◌≤◌, ℕ, IsTrue, List, [], ◌∷◌, length, slice_index};
 ghost use Rattle.pmem_model.specs.Words.{bursts, flushes, fences};
 ghost use Rattle.pmem_model.specs.Memory.{word_at, SameHomes, count_up, KeepsCounts};
+ghost use Rattle.pmem_operations.specs.Operations.{IsAtMostOne};
 
 use pmem_model::Pmem;
+use pmem_operations::laws::operations;
 use sls_base::{FRAME_WORDS, LEADER, LINE_WORDS, TABLE_WORDS};
 
 /// Stores words behind one another.
@@ -17,7 +19,9 @@ pub fn store_words(nvm: &mut Pmem, at: usize, words: &[u64])
     ensures homes { SameHomes nvm.old nvm.new }
     ensures counts { KeepsCounts nvm.old nvm.new }
     ensures one { nvm.new.ops ≡ count_up nvm.old.ops }
+    ensures operation { IsAtMostOne LEADER (word_at nvm.old) (word_at nvm.new) }
 {
+    operations();
     nvm.burst(at, words);
 }
 
@@ -28,6 +32,7 @@ pub fn store(nvm: &mut Pmem, at: usize, word: u64)
     ensures homes { SameHomes nvm.old nvm.new }
     ensures counts { KeepsCounts nvm.old nvm.new }
     ensures one { nvm.new.ops ≡ count_up nvm.old.ops }
+    ensures operation { IsAtMostOne LEADER (word_at nvm.old) (word_at nvm.new) }
 {
     store_words(nvm, at, &[word]);
 }
@@ -41,7 +46,9 @@ pub fn flush(nvm: &mut Pmem, at: usize, lines: usize)
     ensures homes { SameHomes nvm.old nvm.new }
     ensures counts { KeepsCounts nvm.old nvm.new }
     ensures one { nvm.new.ops ≡ count_up nvm.old.ops }
+    ensures operation { IsAtMostOne LEADER (word_at nvm.old) (word_at nvm.new) }
 {
+    operations();
     nvm.flush(LEADER, at, lines);
 }
 
@@ -51,7 +58,9 @@ pub fn fence(nvm: &mut Pmem)
     ensures homes { SameHomes nvm.old nvm.new }
     ensures counts { KeepsCounts nvm.old nvm.new }
     ensures one { nvm.new.ops ≡ count_up nvm.old.ops }
+    ensures operation { IsAtMostOne LEADER (word_at nvm.old) (word_at nvm.new) }
 {
+    operations();
     nvm.fence(LEADER);
 }
 

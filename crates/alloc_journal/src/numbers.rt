@@ -15,6 +15,7 @@ ghost use Rattle.alloc_journal.specs.Format.{NumbersStand};
 ghost use Rattle.alloc_journal.specs.Work.{is_used, once_committed, is_redo, is_logging, is_formatting, log_left, redo_left, IsExact};
 ghost use Rattle.alloc_journal.specs.Formatting.{FormatShows};
 ghost use Rattle.alloc_journal.specs.Operations.{AtMostOne};
+ghost use Rattle.pmem_operations.specs.Operations.{IsAtMostOne};
 ghost use Rattle.alloc_journal.specs.Shows.{NumbersShow};
 ghost use Rattle.alloc_journal.specs.Steps.{Logs, Redoes, Recovers};
 
@@ -71,6 +72,7 @@ impl Numbers {
         ensures homes { SameHomes nvm.old nvm.new }
         ensures counts { KeepsCounts nvm.old nvm.new }
         ensures one { AtMostOne nvm.old nvm.new }
+        ensures operation { IsAtMostOne LEADER (word_at nvm.old) (word_at nvm.new) }
         ensures rest { StoresOnlyIn owners.Numbers (word_at nvm.old) (word_at nvm.new) }
         ensures last { IsTrue result ↔ (is_formatting self.new.work.stage ≡ false) }
         ensures running { self.new.running ≡ self.old.running }
@@ -249,6 +251,7 @@ impl Numbers {
         ensures homes { SameHomes nvm.old nvm.new }
         ensures counts { KeepsCounts nvm.old nvm.new }
         ensures one { AtMostOne nvm.old nvm.new }
+        ensures operation { IsAtMostOne LEADER (word_at nvm.old) (word_at nvm.new) }
         ensures rest { StoresOnlyIn owners.Numbers (word_at nvm.old) (word_at nvm.new) }
         ensures last { IsTrue result ↔ (self.new.work.stage ≡ Logged) }
         ensures logs { Logs self.old.running self.old.work (word_at nvm.old) self.new.work (word_at nvm.new) }
@@ -283,6 +286,7 @@ impl Numbers {
         ensures homes { SameHomes nvm.old nvm.new }
         ensures counts { KeepsCounts nvm.old nvm.new }
         ensures one { AtMostOne nvm.old nvm.new }
+        ensures operation { IsAtMostOne LEADER (word_at nvm.old) (word_at nvm.new) }
         ensures rest { StoresOnlyIn owners.Numbers (word_at nvm.old) (word_at nvm.new) }
         ensures last { IsTrue result ↔ (is_redo self.new.work.stage ≡ false) }
         ensures redoes { Redoes (once_committed self.old.work) (word_at nvm.old) self.new.work (word_at nvm.new) }
@@ -309,6 +313,7 @@ impl Numbers {
         ensures homes { SameHomes nvm.old nvm.new }
         ensures counts { KeepsCounts nvm.old nvm.new }
         ensures one { AtMostOne nvm.old nvm.new }
+        ensures operation { IsAtMostOne LEADER (word_at nvm.old) (word_at nvm.new) }
         ensures rest { StoresOnlyIn owners.Numbers (word_at nvm.old) (word_at nvm.new) }
         ensures last { IsTrue result ↔ (is_redo self.new.work.stage ≡ false) }
         ensures redoes { Redoes self.old.work (word_at nvm.old) self.new.work (word_at nvm.new) }

@@ -3,6 +3,7 @@
 ghost use Rattle.std.specs.Prelude.{◌≡◌, ◌≢◌, ℕ, ◌+◌, ◌<◌, ◌≤◌, ◌↔◌, Option, IsTrue};
 ghost use Rattle.sls_base.specs.declared.limits.TheConstants.{CORES, LAST_VERSION, PAGES};
 ghost use Rattle.pmem_model.specs.Memory.{word_at, SameHomes, count_up, KeepsCounts};
+ghost use Rattle.pmem_operations.specs.Operations.{IsAtMostOne};
 ghost use Rattle.pmem_layout.specs.Owners as owners;
 ghost use Rattle.pmem_layout.specs.Rooms.{StoresOnlyIn};
 ghost use Rattle.page_store.specs.Slots.{IsPageHome};
@@ -33,6 +34,7 @@ pub fn step(
     requires may { MayFault (state_of pages.old page) core }
     ensures last { IsTrue result ↔ (state_of pages.new page ≡ state.Writable) }
     ensures one { nvm.new.ops ≡ count_up nvm.old.ops }
+    ensures operation { IsAtMostOne core (word_at nvm.old) (word_at nvm.new) }
     ensures steps { steps_left (stage_of pages.new page) + 1 ≡ steps_left (stage_of pages.old page) }
     ensures stage { stage_of pages.new page ≡ faulted (stage_of pages.old page) core }
     ensures others { (i : ℕ) → i ≢ page → stage_of pages.new i ≡ stage_of pages.old i }

@@ -4,6 +4,7 @@ use Rattle.sls_base.specs.declared.entry.Entry.{Entry}
 use Rattle.sls_base.specs.declared.entry.Full.{Full}
 use Rattle.pmem_model.specs.Words.{is_within, writes_back, cuts}
 use Rattle.pmem_model.specs.Memory.{count_up}
+use Rattle.pmem_operations.specs.Operations.{AreOperations}
 use Rattle.plain_model.specs.Worlds.{World}
 use Rattle.plain_model.specs.Play.{is_offered, next_entry, has_input_room}
 use Rattle.machine_contract.specs.declared.answers.Did.{Did}
@@ -19,7 +20,7 @@ use Rattle.machine_contract.specs.Courses.{Course, turn_label, back_label, after
 use Rattle.machine_contract.specs.Shown.{Seen, Format}
 use Rattle.machine_contract.specs.Begins.{BeginsAgain}
 use Rattle.machine_contract.specs.Boards.{IsRenewed, IfOpened}
-use Rattle.machine_contract.specs.Operations.{AreOperations, operations}
+use Rattle.machine_contract.specs.Operations.{operations}
 
 -- A commit, by a turn or by a write-back: a machine that uses spares has opened the board of this checkpoint.
 abbrev pub HasOpened : Format → Seen → Type 0

@@ -3,9 +3,11 @@
 ghost use Rattle.std.specs.Prelude.{◌≡◌, ◌+◌, ◌*◌, ◌%◌, ◌<◌, ◌≤◌, ℕ, length, slice_index};
 ghost use Rattle.pmem_model.specs.Words.{flushes};
 ghost use Rattle.pmem_model.specs.Events.{IsBurst, IsCalm};
+ghost use Rattle.pmem_operations.specs.Operations.{IsAtMostOne};
 ghost use Rattle.pmem_model.specs.Memory.{SameHomes, word_at, count_up, KeepsCounts};
 
 use pmem_model::Pmem;
+use pmem_operations::laws::operations;
 use sls_base::{FRAME_WORDS, LEADER, LINE_WORDS, TABLE_WORDS};
 
 /// The cached value of a word of the table.
@@ -27,7 +29,9 @@ pub fn store(nvm: &mut Pmem, at: usize, words: &[u64])
     ensures homes { SameHomes nvm.old nvm.new }
     ensures counts { KeepsCounts nvm.old nvm.new }
     ensures operations { nvm.new.ops ≡ count_up nvm.old.ops }
+    ensures operation { IsAtMostOne LEADER (word_at nvm.old) (word_at nvm.new) }
 {
+    operations();
     nvm.burst(at, words);
 }
 
@@ -42,6 +46,8 @@ pub fn flush(nvm: &mut Pmem, at: usize, lines: usize)
     ensures homes { SameHomes nvm.old nvm.new }
     ensures counts { KeepsCounts nvm.old nvm.new }
     ensures operations { nvm.new.ops ≡ count_up nvm.old.ops }
+    ensures operation { IsAtMostOne LEADER (word_at nvm.old) (word_at nvm.new) }
 {
+    operations();
     nvm.flush(LEADER, at, lines);
 }

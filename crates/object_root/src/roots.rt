@@ -4,6 +4,7 @@ ghost use Rattle.std.specs.Prelude.{◌≡◌, ◌≢◌, ◌⊎◌, ℕ, ◌+�
 ghost use Rattle.pmem_model.specs.Words.{Word};
 ghost use Rattle.pmem_model.specs.Memory.{SameHomes, word_at, KeepsCounts};
 ghost use Rattle.pmem_model.specs.Events.{IsCalm};
+ghost use Rattle.pmem_operations.specs.Operations.{IsAtMostOne};
 ghost use Rattle.pmem_layout.specs.Owners.{Objects};
 ghost use Rattle.pmem_layout.specs.Rooms.{FencedIn, StoresOnlyIn};
 ghost use Rattle.kobj_codec.specs.declared.obj.Obj.{Obj};
@@ -24,6 +25,7 @@ use pmem_layout::{
     object_tag_at,
 };
 use pmem_model::Pmem;
+use pmem_operations::laws::operations;
 use sls_base::{LAST_VERSION, LEADER, LINE_WORDS, OBJECTS, ObjId, Version};
 use std::marker::Model;
 
@@ -150,6 +152,7 @@ impl Roots {
         ensures homes { SameHomes nvm.old nvm.new }
         ensures counts { KeepsCounts nvm.old nvm.new }
         ensures operations { AtMostOne nvm.old nvm.new }
+        ensures operation { IsAtMostOne LEADER (word_at nvm.old) (word_at nvm.new) }
         ensures rest { StoresOnlyIn Objects (word_at nvm.old) (word_at nvm.new) }
         // Whatever is saved, and whatever is written that has these words as its record.
         ensures shows { (v : ℕ) (saved next : ℕ → Option Obj) → IsRecordOf (next id) (slice_index words.now)
@@ -180,6 +183,7 @@ impl Roots {
         ensures homes { SameHomes nvm.old nvm.new }
         ensures counts { KeepsCounts nvm.old nvm.new }
         ensures operations { AtMostOne nvm.old nvm.new }
+        ensures operation { IsAtMostOne LEADER (word_at nvm.old) (word_at nvm.new) }
         ensures rest { StoresOnlyIn Objects (word_at nvm.old) (word_at nvm.new) }
         ensures shows { KeepsShowing self.old self.new (word_at nvm.old) (word_at nvm.new) }
         ensures spared { SparesSaved self.old (word_at nvm.old) (word_at nvm.new) }
@@ -232,10 +236,12 @@ impl Roots {
         ensures homes { SameHomes nvm.old nvm.new }
         ensures counts { KeepsCounts nvm.old nvm.new }
         ensures operations { AtMostOne nvm.old nvm.new }
+        ensures operation { IsAtMostOne LEADER (word_at nvm.old) (word_at nvm.new) }
         ensures rest { StoresOnlyIn Objects (word_at nvm.old) (word_at nvm.new) }
         ensures shows { KeepsShowing self.old self.new (word_at nvm.old) (word_at nvm.new) }
         ensures spared { SparesSaved self.old (word_at nvm.old) (word_at nvm.new) }
     {
+        operations();
         match self.phase() {
             Phase::Clearing(tag) => {
                 if tag < SLOTS * OBJECTS {
@@ -264,6 +270,7 @@ impl Roots {
         ensures homes { SameHomes nvm.old nvm.new }
         ensures counts { KeepsCounts nvm.old nvm.new }
         ensures operations { AtMostOne nvm.old nvm.new }
+        ensures operation { IsAtMostOne LEADER (word_at nvm.old) (word_at nvm.new) }
         ensures rest { StoresOnlyIn Objects (word_at nvm.old) (word_at nvm.new) }
         ensures shows { (v : ℕ) (saved next : ℕ → Option Obj) → IsRecordOf (next id) (slice_index words.now)
             → ObjectsShow self.old (word_at nvm.old) v saved next
@@ -284,6 +291,7 @@ impl Roots {
         ensures homes { SameHomes nvm.old nvm.new }
         ensures counts { KeepsCounts nvm.old nvm.new }
         ensures operations { AtMostOne nvm.old nvm.new }
+        ensures operation { IsAtMostOne LEADER (word_at nvm.old) (word_at nvm.new) }
         ensures calm { IsCalm (word_at nvm.old) (word_at nvm.new) }
         ensures shows { KeepsShowing self.old self.new (word_at nvm.old) (word_at nvm.new) }
     {
@@ -300,6 +308,7 @@ impl Roots {
         ensures homes { SameHomes nvm.old nvm.new }
         ensures counts { KeepsCounts nvm.old nvm.new }
         ensures operations { AtMostOne nvm.old nvm.new }
+        ensures operation { IsAtMostOne LEADER (word_at nvm.old) (word_at nvm.new) }
         ensures rest { StoresOnlyIn Objects (word_at nvm.old) (word_at nvm.new) }
         ensures shows { KeepsShowing self.old self.new (word_at nvm.old) (word_at nvm.new) }
         ensures spared { SparesSaved self.old (word_at nvm.old) (word_at nvm.new) }
@@ -318,6 +327,7 @@ impl Roots {
         ensures homes { SameHomes nvm.old nvm.new }
         ensures counts { KeepsCounts nvm.old nvm.new }
         ensures operations { AtMostOne nvm.old nvm.new }
+        ensures operation { IsAtMostOne LEADER (word_at nvm.old) (word_at nvm.new) }
         ensures calm { IsCalm (word_at nvm.old) (word_at nvm.new) }
         ensures shows { KeepsShowing self.old self.new (word_at nvm.old) (word_at nvm.new) }
     {
@@ -334,6 +344,7 @@ impl Roots {
         ensures homes { SameHomes nvm.old nvm.new }
         ensures counts { KeepsCounts nvm.old nvm.new }
         ensures operations { AtMostOne nvm.old nvm.new }
+        ensures operation { IsAtMostOne LEADER (word_at nvm.old) (word_at nvm.new) }
         ensures rest { StoresOnlyIn Objects (word_at nvm.old) (word_at nvm.new) }
         ensures shows { KeepsShowing self.old self.new (word_at nvm.old) (word_at nvm.new) }
         ensures spared { SparesSaved self.old (word_at nvm.old) (word_at nvm.new) }

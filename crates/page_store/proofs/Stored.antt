@@ -1,11 +1,11 @@
 -- Pages to which words were stored in their runtime frames.
-use Rattle.std.specs.Prelude.{◌≡◌, ◌⊎◌, ℕ, ◌+◌, ◌<◌, Bool, true, false, if◌then◌else◌, Option, Some}
-use Rattle.std.proofs.Common.{refl, sym, subst, inl, inr, arith, ⊎_elim}
+use Rattle.std.specs.Prelude.{◌≡◌, ℕ, ◌+◌, ◌<◌, Bool, true, false, if◌then◌else◌, Option, Some}
+use Rattle.std.proofs.Common.{refl, sym, subst, inl, arith, ⊎_elim}
 use Rattle.std.proofs.lemmas.Bool.{cases_Bool}
 use Rattle.sls_base.specs.declared.limits.TheConstants.{FRAME_WORDS, PAGES}
 use Rattle.sls_base.specs.declared.fixed.TheConstants.{LEADER}
 use Rattle.pmem_model.specs.Words.{Word}
-use Rattle.pmem_model.specs.Events.{WordCalm, Clean, calm_same}
+use Rattle.pmem_model.specs.Events.{WordCalm, calm_same}
 use Rattle.pmem_model.specs.Maps.{known_calm}
 use Rattle.pmem_layout.specs.Places.{runtime_frame, frame_at}
 use Rattle.page_store.specs.Slots.{Backup, slot_frame, slot_tag_at}
@@ -14,7 +14,6 @@ use Rattle.page_store.specs.Stores.{IsInPage, IsStored, StoresInPages, after_sto
 use Rattle.page_store.specs.Shows.{PageShows}
 use Rattle.page_store.specs.declared.stage.PageStage.{PageStage}
 use Rattle.page_store.specs.declared.stage.PageStage.TheVariants.{Fresh, Protected, Preparing, Writable}
-use Rattle.page_store.specs.declared.stage.Origin.{Origin}
 use Rattle.page_store.specs.declared.stage.Writes.TheVariants.{Nothing, Stored, Flushed}
 use Rattle.page_store.proofs.Places.{IsOfPage, pages_apart}
 use Rattle.page_store.proofs.PageLaws.{page_calm}

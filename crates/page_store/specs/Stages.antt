@@ -108,3 +108,10 @@ IsSettled Fresh = Unit {0}
 IsSettled Protected = Unit {0}
 IsSettled (Preparing core next) = ⊥
 IsSettled (Writable origin writes) = Unit {0}
+
+-- Nothing was stored to a page since the committed version. It may be writable, where a slot has its content of that.
+abbrev pub IsAsRecovered : PageStage → Type 0
+IsAsRecovered Fresh = Unit {0}
+IsAsRecovered Protected = Unit {0}
+IsAsRecovered (Writable Copy Nothing) = Unit {0}
+IsAsRecovered _ = ⊥

@@ -5,11 +5,12 @@ ghost use Rattle.std.specs.Prelude.{◌≡◌, ℕ, ◌+◌, ◌<◌, ◌≤◌,
 ghost use Rattle.sls_base.specs.declared.limits.TheConstants.{LAST_VERSION, PAGES};
 ghost use Rattle.pmem_model.specs.Words.{Word};
 ghost use Rattle.pmem_model.specs.Memory.{word_at, AllHome, SameHomes, count_up, KeepsCounts};
+ghost use Rattle.pmem_operations.specs.Operations.{IsAtMostOne};
 ghost use Rattle.pmem_layout.specs.Owners as owners;
 ghost use Rattle.pmem_layout.specs.Rooms.{StoresOnlyIn};
 ghost use Rattle.page_store.specs.Slots.{durable_words, IsAllClean};
 ghost use Rattle.page_store.specs.Format.{PagesStand};
-ghost use Rattle.page_store.specs.Stages.{stage_of, IsSettled};
+ghost use Rattle.page_store.specs.Stages.{stage_of, IsAsRecovered, IsSettled};
 ghost use Rattle.page_store.specs.Known.{Open};
 ghost use Rattle.page_store.specs.Shows.{PagesShow};
 ghost use Rattle.page_store.specs.Back.{is_back, steps_left, RecoveryShows, RecoveryMoves, at_step, passed, filled};
@@ -20,6 +21,7 @@ use pmem_layout::{
     EMPTY_WORD, FRAME_LINES, Tag, backup_frame, backup_tag_at, frame_at, line_at, runtime_frame,
 };
 use pmem_model::Pmem;
+use pmem_operations::laws::operations;
 use sls_base::{LEADER, PAGES, PageNo, Version};
 
 /// The steps that a whole recovery has at most: two a page, and the fence.
@@ -78,12 +80,14 @@ impl Recovery {
         ensures left { is_back self.old ≡ false → steps_left self.new < steps_left self.old }
         ensures stays { is_back self.old ≡ true → self.new ≡ self.old }
         ensures one { (nvm.new ≡ nvm.old) ⊎ (nvm.new.ops ≡ count_up nvm.old.ops) }
+        ensures operation { IsAtMostOne LEADER (word_at nvm.old) (word_at nvm.new) }
         ensures counts { KeepsCounts nvm.old nvm.new }
         ensures home { AllHome nvm.new }
         ensures rest { StoresOnlyIn owners.Pages (word_at nvm.old) (word_at nvm.new) }
         ensures shows { (saved : ℕ → Option (ℕ → ℕ)) → RecoveryShows self.old (word_at nvm.old) version saved
             → RecoveryShows self.new (word_at nvm.new) version saved }
     {
+        operations();
         if self.is_fenced {
             return true;
         }
@@ -142,6 +146,8 @@ impl Recovery {
         // Each page may be forgotten.
         ensures settled { (f : ℕ → Word) (v : ℕ) (saved : ℕ → Option (ℕ → ℕ)) → IsTrue (is_back self)
             → RecoveryShows self f v saved → (page : ℕ) → page < PAGES → IsSettled (stage_of result page) }
+        ensures recovered { (f : ℕ → Word) (v : ℕ) (saved : ℕ → Option (ℕ → ℕ)) → IsTrue (is_back self)
+            → RecoveryShows self f v saved → (page : ℕ) → page < PAGES → IsAsRecovered (stage_of result page) }
     {
         self.pages
     }

@@ -6,6 +6,7 @@ ghost use Rattle.sls_base.specs.declared.fixed.TheConstants.{LEADER};
 ghost use Rattle.pmem_model.specs.Words.{Word};
 ghost use Rattle.pmem_model.specs.Events.{Clean, WordIs, IsBurst};
 ghost use Rattle.pmem_model.specs.Memory.{word_at, SameHomes, count_up, KeepsCounts};
+ghost use Rattle.pmem_operations.specs.Operations.{IsAtMostOne};
 ghost use Rattle.pmem_layout.specs.Owners as owners;
 ghost use Rattle.pmem_layout.specs.Places.{runtime_frame, frame_at};
 ghost use Rattle.pmem_layout.specs.Rooms.{StoresOnlyIn};
@@ -19,6 +20,7 @@ use pmem_layout::{
     FRAME_LINES, Tag, backup_frame, backup_tag_at, frame_at, line_at, runtime_frame,
 };
 use pmem_model::Pmem;
+use pmem_operations::laws::operations;
 use sls_base::{CoreNo, FRAME_WORDS, LEADER, PAGES, PageNo, Version};
 
 /// What is entered of a page.
@@ -104,6 +106,7 @@ impl PageStore {
         requires home { IsPageHome nvm.old page }
         requires fresh { stage_of self.old page ≡ PageStage.Fresh }
         ensures one { nvm.new.ops ≡ count_up nvm.old.ops }
+        ensures operation { (core : ℕ) → IsAtMostOne core (word_at nvm.old) (word_at nvm.new) }
         ensures homes { SameHomes nvm.old nvm.new }
         ensures counts { KeepsCounts nvm.old nvm.new }
         ensures rest { StoresOnlyIn owners.Pages (word_at nvm.old) (word_at nvm.new) }
@@ -113,6 +116,7 @@ impl PageStore {
             → PagesShow self.old (word_at nvm.old) v saved now phase
             → PagesShow self.new (word_at nvm.new) v saved now phase }
     {
+        operations();
         nvm.burst(frame_at(runtime_frame(page)), &zero_words());
         self.enter(page, PageStage::Writable(Origin::Zeros, Writes::Nothing));
     }
@@ -126,6 +130,7 @@ impl PageStore {
         requires may { MayCopy (stage_of self.old page) core }
         ensures last { IsTrue result ↔ (stage_of self.old page ≡ PageStage.Preparing core Preparation.FenceCopy) }
         ensures one { nvm.new.ops ≡ count_up nvm.old.ops }
+        ensures operation { IsAtMostOne core (word_at nvm.old) (word_at nvm.new) }
         ensures homes { SameHomes nvm.old nvm.new }
         ensures counts { KeepsCounts nvm.old nvm.new }
         ensures rest { StoresOnlyIn owners.Pages (word_at nvm.old) (word_at nvm.new) }
@@ -135,6 +140,7 @@ impl PageStore {
             → PagesShow self.old (word_at nvm.old) v saved now phase
             → PagesShow self.new (word_at nvm.new) v saved now phase }
     {
+        operations();
         match self.stage(page) {
             PageStage::Protected => {
                 nvm.copy(runtime_frame(page), backup_frame(page));
@@ -165,6 +171,7 @@ impl PageStore {
         requires may { MayTag (stage_of self.old page) core }
         ensures last { IsTrue result ↔ (stage_of self.old page ≡ PageStage.Preparing core Preparation.FenceTag) }
         ensures one { nvm.new.ops ≡ count_up nvm.old.ops }
+        ensures operation { IsAtMostOne core (word_at nvm.old) (word_at nvm.new) }
         ensures homes { SameHomes nvm.old nvm.new }
         ensures counts { KeepsCounts nvm.old nvm.new }
         ensures rest { StoresOnlyIn owners.Pages (word_at nvm.old) (word_at nvm.new) }
@@ -174,6 +181,7 @@ impl PageStore {
             → PagesShow self.old (word_at nvm.old) version saved now phase
             → PagesShow self.new (word_at nvm.new) version saved now phase }
     {
+        operations();
         match self.stage(page) {
             PageStage::Preparing(_, Preparation::StoreTag) => {
                 nvm.burst(backup_tag_at(page), &[Tag::Of(version).to_word()]);
@@ -218,6 +226,7 @@ impl PageStore {
         requires home { IsPageHome nvm.old page }
         ensures one { (flushed (stage_of self.old page) ≡ stage_of self.old page → nvm.new ≡ nvm.old)
             × (flushed (stage_of self.old page) ≢ stage_of self.old page → nvm.new.ops ≡ count_up nvm.old.ops) }
+        ensures operation { IsAtMostOne LEADER (word_at nvm.old) (word_at nvm.new) }
         ensures homes { SameHomes nvm.old nvm.new }
         ensures counts { KeepsCounts nvm.old nvm.new }
         ensures rest { StoresOnlyIn owners.Pages (word_at nvm.old) (word_at nvm.new) }
@@ -226,6 +235,7 @@ impl PageStore {
         ensures shows { (v : ℕ) (saved now : ℕ → Option (ℕ → ℕ)) → PagesShow self.old (word_at nvm.old) v saved now Open
             → PagesShow self.new (word_at nvm.new) v saved now Open }
     {
+        operations();
         if let PageStage::Writable(origin, Writes::Stored) = self.stage(page) {
             nvm.flush(LEADER, frame_at(runtime_frame(page)), FRAME_LINES);
             self.enter(page, PageStage::Writable(origin, Writes::Flushed));

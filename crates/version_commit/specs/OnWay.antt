@@ -13,6 +13,12 @@ next Store = Flush
 next Flush = Fence
 next Fence = Store
 
+-- how many operations there still are, with this one
+abbrev pub turns_of : Step → ℕ
+turns_of Store = 3
+turns_of Flush = 2
+turns_of Fence = 1
+
 -- what is known of it before the step: before the store it is clean, and before the fence in flight
 abbrev pub kind_before : Step → ℕ → Kind
 kind_before Store was = Clean

@@ -4,9 +4,10 @@ ghost use Rattle.std.specs.Prelude.{◌≡◌, ℕ, ◌↔◌, IsTrue};
 ghost use Rattle.pmem_model.specs.Words.{Word};
 ghost use Rattle.pmem_model.specs.Memory.{word_at, SameHomes, count_up, KeepsCounts};
 ghost use Rattle.pmem_model.specs.Events.{WordIs, Clean};
+ghost use Rattle.pmem_operations.specs.Operations.{IsAtMostOne};
 ghost use Rattle.pmem_layout.specs.Owners as owners;
 ghost use Rattle.pmem_layout.specs.Rooms.{StoresOnlyIn};
-ghost use Rattle.version_commit.specs.OnWay.{next, durable_after, reads_after, words_after};
+ghost use Rattle.version_commit.specs.OnWay.{next, turns_of, durable_after, reads_after, words_after};
 ghost use Rattle.version_commit.specs.Shows.{FormatShows, VersionShows};
 
 use crate::step::{self, Step};
@@ -48,6 +49,7 @@ impl Committer {
         ensures last { IsTrue result ↔ (self.old.format ≡ Step.Fence) }
         ensures steps { self.new ≡ record self.old { format = next self.old.format } }
         ensures one { nvm.new.ops ≡ count_up nvm.old.ops }
+        ensures operation { IsAtMostOne LEADER (word_at nvm.old) (word_at nvm.new) }
         ensures homes { SameHomes nvm.old nvm.new }
         ensures counts { KeepsCounts nvm.old nvm.new }
         ensures words { (i : ℕ) → word_at nvm.new i
@@ -63,12 +65,20 @@ impl Committer {
         step.is_last()
     }
 
+    /// How many operations the commit still takes: three, two or one.
+    pub fn commit_turns(&self) -> u8
+        ensures { result ≡ turns_of self.now.version }
+    {
+        self.version.turns()
+    }
+
     /// Stores, flushes and fences the version word, one operation a call. True exactly at the last, with which the
     /// version is committed at the latest.
     pub fn commit_step(&mut self, nvm: &mut Pmem, version: Version) -> bool
         ensures last { IsTrue result ↔ (self.old.version ≡ Step.Fence) }
         ensures steps { self.new ≡ record self.old { version = next self.old.version } }
         ensures one { nvm.new.ops ≡ count_up nvm.old.ops }
+        ensures operation { IsAtMostOne LEADER (word_at nvm.old) (word_at nvm.new) }
         ensures homes { SameHomes nvm.old nvm.new }
         ensures counts { KeepsCounts nvm.old nvm.new }
         ensures words { (i : ℕ) → word_at nvm.new i

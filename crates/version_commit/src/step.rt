@@ -4,10 +4,12 @@ ghost use Rattle.std.specs.Prelude.{◌≡◌, ◌≢◌, ℕ, ◌+◌, ◌<◌,
 ghost use Rattle.pmem_model.specs.Words.{Word};
 ghost use Rattle.pmem_model.specs.Memory.{word_at, SameHomes, count_up, KeepsCounts};
 ghost use Rattle.pmem_model.specs.Events.{WordCalm};
-ghost use Rattle.version_commit.specs.OnWay.{IsOnWay, next, durable_after, reads_after, words_after};
+ghost use Rattle.pmem_operations.specs.Operations.{IsAtMostOne};
+ghost use Rattle.version_commit.specs.OnWay.{IsOnWay, next, turns_of, durable_after, reads_after, words_after};
 
 use pmem_layout::line_at;
 use pmem_model::Pmem;
+use pmem_operations::laws::operations;
 use sls_base::{LEADER, TABLE_WORDS};
 
 /// The operation on a word that comes next.
@@ -27,9 +29,11 @@ pub fn go_on(nvm: &mut Pmem, step: Step, at: usize, value: u64)
     ensures homes { SameHomes nvm.old nvm.new }
     ensures counts { KeepsCounts nvm.old nvm.new }
     ensures one { nvm.new.ops ≡ count_up nvm.old.ops }
+    ensures operation { IsAtMostOne LEADER (word_at nvm.old) (word_at nvm.new) }
     ensures shows { (was reads : ℕ) → IsOnWay step (word_at nvm.old at) was reads
         → IsOnWay (next step) (word_at nvm.new at) (durable_after step was reads) (reads_after step value reads) }
 {
+    operations();
     match step {
         Step::Store => nvm.burst(at, &[value]),
         Step::Flush => nvm.flush(LEADER, line_at(at), 1),
@@ -46,6 +50,17 @@ impl Step {
             Step::Store => Step::Flush,
             Step::Flush => Step::Fence,
             Step::Fence => Step::Store,
+        }
+    }
+
+    /// How many operations there still are, with this one.
+    pub fn turns(self) -> u8
+        ensures { result ≡ turns_of self }
+    {
+        match self {
+            Step::Store => 3,
+            Step::Flush => 2,
+            Step::Fence => 1,
         }
     }
 

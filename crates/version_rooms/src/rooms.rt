@@ -7,6 +7,7 @@ ghost use Rattle.sls_base.specs.declared.limits.TheConstants.{CORES, FRAME_WORDS
 ghost use Rattle.pmem_model.specs.Words.{Word};
 ghost use Rattle.pmem_model.specs.Events.{Clean, IsBurst, IsCalm, IsFenced, WordIs};
 ghost use Rattle.pmem_model.specs.Memory.{word_at, AllHome, SameHomes, count_up, KeepsCounts};
+ghost use Rattle.pmem_operations.specs.Operations.{IsAtMostOne};
 ghost use Rattle.pmem_layout.specs.Places.{frame_at, runtime_frame};
 ghost use Rattle.alloc_journal.specs.declared.journal.Stage.TheVariants as logs;
 ghost use Rattle.alloc_journal.specs.Sets.{changes};
@@ -21,7 +22,7 @@ ghost use Rattle.page_store.specs.Known.{Phase, Open, Fenced};
 ghost use Rattle.page_store.specs.Shows.{after_store};
 ghost use Rattle.cow_fault.specs.Faults.{MayFault, faulted};
 ghost use Rattle.version_commit.specs.declared.step.Step.TheVariants as steps;
-ghost use Rattle.version_commit.specs.OnWay.{next};
+ghost use Rattle.version_commit.specs.OnWay.{next, turns_of};
 ghost use Rattle.version_commit.specs.Shows.{VersionShows};
 ghost use Rattle.durable_state.specs.Parts.{Parts};
 ghost use Rattle.version_rooms.specs.Rooms.{Contents, AreCommitted, IsAtRest, IsReady, Keeps, Logs, MayCommit, RoomsKeep, RoomsShow, Settles, TakesLogged, once_committed, without_page};
@@ -32,6 +33,7 @@ use object_root::{Roots, Stage as RecordStage};
 use page_store::{PageStage, PageStore};
 use pmem_layout::SLOT_WORDS;
 use pmem_model::Pmem;
+use pmem_operations::laws::operations;
 use sls_base::{CoreNo, LAST_VERSION, LEADER, ObjId, PageNo, Version};
 use version_commit::Committer;
 
@@ -50,10 +52,12 @@ pub struct Rooms {
 fn fence(nvm: &mut Pmem)
     ensures fenced { IsFenced LEADER (word_at nvm.old) (word_at nvm.new) }
     ensures one { nvm.new.ops ≡ count_up nvm.old.ops }
+    ensures operation { IsAtMostOne LEADER (word_at nvm.old) (word_at nvm.new) }
     ensures homes { SameHomes nvm.old nvm.new }
     ensures counts { KeepsCounts nvm.old nvm.new }
 {
     pmem_model::laws::what_is_known();
+    operations();
     nvm.fence(LEADER);
 }
 
@@ -88,6 +92,7 @@ impl Rooms {
         ensures others { (i : ℕ) → i ≢ page → stage_of self.new.pages i ≡ stage_of self.old.pages i }
         ensures rest { self.new ≡ record self.old { pages = self.new.pages } }
         ensures one { nvm.new.ops ≡ count_up nvm.old.ops }
+        ensures operation { IsAtMostOne core (word_at nvm.old) (word_at nvm.new) }
         ensures homes { SameHomes nvm.old nvm.new }
         ensures counts { KeepsCounts nvm.old nvm.new }
         ensures shows { (phase : Phase) → Keeps self.old self.new (word_at nvm.old) (word_at nvm.new) phase phase }
@@ -125,6 +130,7 @@ impl Rooms {
         ensures one { (flushed (stage_of self.old.pages page) ≡ stage_of self.old.pages page → nvm.new ≡ nvm.old)
             × (flushed (stage_of self.old.pages page) ≢ stage_of self.old.pages page
             → nvm.new.ops ≡ count_up nvm.old.ops) }
+        ensures operation { IsAtMostOne LEADER (word_at nvm.old) (word_at nvm.new) }
         ensures homes { SameHomes nvm.old nvm.new }
         ensures counts { KeepsCounts nvm.old nvm.new }
         ensures shows { Keeps self.old self.new (word_at nvm.old) (word_at nvm.new) Open Open }
@@ -138,6 +144,7 @@ impl Rooms {
         requires rest { IsAtRest self.old }
         ensures same { self.new ≡ self.old }
         ensures one { nvm.new.ops ≡ count_up nvm.old.ops }
+        ensures operation { IsAtMostOne LEADER (word_at nvm.old) (word_at nvm.new) }
         ensures homes { SameHomes nvm.old nvm.new }
         ensures counts { KeepsCounts nvm.old nvm.new }
         ensures shows { Keeps self.old self.new (word_at nvm.old) (word_at nvm.new) Open Fenced }
@@ -153,6 +160,7 @@ impl Rooms {
         ensures step { Writes self.old.roots.phase (stage_at self.old.roots id) (stage_at self.new.roots id) result }
         ensures others { KeepsOthers self.old.roots self.new.roots id }
         ensures rest { self.new ≡ record self.old { roots = self.new.roots } }
+        ensures operation { IsAtMostOne LEADER (word_at nvm.old) (word_at nvm.new) }
         ensures homes { SameHomes nvm.old nvm.new }
         ensures counts { KeepsCounts nvm.old nvm.new }
         ensures one { (nvm.new.ops ≡ nvm.old.ops) ⊎ (nvm.new.ops ≡ count_up nvm.old.ops) }
@@ -171,6 +179,7 @@ impl Rooms {
         ensures step { StoresTag self.old.roots.phase (stage_at self.old.roots id) (stage_at self.new.roots id) result }
         ensures others { KeepsOthers self.old.roots self.new.roots id }
         ensures rest { self.new ≡ record self.old { roots = self.new.roots } }
+        ensures operation { IsAtMostOne LEADER (word_at nvm.old) (word_at nvm.new) }
         ensures homes { SameHomes nvm.old nvm.new }
         ensures counts { KeepsCounts nvm.old nvm.new }
         ensures one { (nvm.new.ops ≡ nvm.old.ops) ⊎ (nvm.new.ops ≡ count_up nvm.old.ops) }
@@ -186,6 +195,7 @@ impl Rooms {
         ensures passed { Passes self.old.roots self.new.roots (fenced self.old.roots.phase) }
         ensures rest { self.new ≡ record self.old { roots = self.new.roots } }
         ensures one { nvm.new.ops ≡ count_up nvm.old.ops }
+        ensures operation { IsAtMostOne LEADER (word_at nvm.old) (word_at nvm.new) }
         ensures homes { SameHomes nvm.old nvm.new }
         ensures counts { KeepsCounts nvm.old nvm.new }
         ensures shows { (phase : Phase) → Keeps self.old self.new (word_at nvm.old) (word_at nvm.new) phase Fenced }
@@ -224,6 +234,7 @@ impl Rooms {
             ≡ changes self.new.numbers.work.committed self.new.numbers.work.logged }
         ensures rest { self.new ≡ record self.old { numbers = self.new.numbers } }
         ensures one { (nvm.new.ops ≡ count_up nvm.old.ops) ⊎ (nvm.new.ops ≡ nvm.old.ops) }
+        ensures operation { IsAtMostOne LEADER (word_at nvm.old) (word_at nvm.new) }
         ensures homes { SameHomes nvm.old nvm.new }
         ensures counts { KeepsCounts nvm.old nvm.new }
         ensures shows { (phase : Phase) → Keeps self.old self.new (word_at nvm.old) (word_at nvm.new) phase phase }
@@ -244,6 +255,7 @@ impl Rooms {
         ensures running { self.new.numbers.running ≡ self.old.numbers.running }
         ensures rest { self.new ≡ record self.old { numbers = self.new.numbers } }
         ensures one { (nvm.new.ops ≡ count_up nvm.old.ops) ⊎ (nvm.new.ops ≡ nvm.old.ops) }
+        ensures operation { IsAtMostOne LEADER (word_at nvm.old) (word_at nvm.new) }
         ensures homes { SameHomes nvm.old nvm.new }
         ensures counts { KeepsCounts nvm.old nvm.new }
         ensures shows { (phase : Phase) → Keeps self.old self.new (word_at nvm.old) (word_at nvm.new) phase phase }
@@ -252,10 +264,18 @@ impl Rooms {
         self.numbers.apply_step(nvm)
     }
 
+    /// How many operations the commit still takes: three, two or one.
+    pub fn commit_turns(&self) -> u8
+        ensures { result ≡ turns_of self.now.committer.version }
+    {
+        self.committer.commit_turns()
+    }
+
     /// Stores, flushes and fences the next version in the version word, one operation a call. True exactly where that
     /// version is committed by it: at the last of these steps, if it wasn't before.
     pub fn commit_step(&mut self, nvm: &mut Pmem) -> bool
         ensures one { nvm.new.ops ≡ count_up nvm.old.ops }
+        ensures operation { IsAtMostOne LEADER (word_at nvm.old) (word_at nvm.new) }
         ensures homes { SameHomes nvm.old nvm.new }
         ensures counts { KeepsCounts nvm.old nvm.new }
         ensures step { result ≡ false

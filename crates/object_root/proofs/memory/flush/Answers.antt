@@ -1,4 +1,4 @@
-use Rattle.std.proofs.Common.{◌*◌, arith}
+use Rattle.std.proofs.Common.{◌*◌, ◌<◌, inr, arith}
 use Rattle.pmem_model.specs.Events.{flush_calm}
 use Rattle.pmem_model.specs.Memory.{word_at}
 use Rattle.pmem_model.specs.PlaceLaws.{inside_table}
@@ -13,3 +13,10 @@ returns-clause-calm c = record {
   at = flush_calm (word_at c.args.nvm.now) (word_at c.flush.new.self) LEADER c.args.at
       (8 * c.args.lines) c.flush.ensures.words;
 }
+
+pub returns-clause-operation : goal.returns-clause-operation
+returns-clause-operation c =
+    let all = c.requires.in_table in let some = c.requires.some in
+    let inside : c.args.at < 17920 = omega (arith, all, some) in
+    inr (c.operations.ensures.flush LEADER c.args.at c.args.lines _ _
+    (omega (arith, inside), inside_table c.args.at (8 * c.args.lines) inside all) c.flush.ensures.words)

@@ -1,4 +1,4 @@
-use Rattle.std.proofs.Common.{◌∙◌, sym}
+use Rattle.std.proofs.Common.{◌∙◌, sym, inr}
 use Rattle.pmem_model.specs.Events.{fence_all}
 use Rattle.pmem_model.specs.Memory.{word_at}
 use Rattle.object_root.proofs.Owners.{calm_stores, fenced_in}
@@ -40,3 +40,6 @@ returns-in-Cleared-clause-spared c = λ v saved next h.
     let f = word_at c.args.nvm.now in
     let g = word_at c.fence.new.self in
     calm_spares f g v (record { at = λ i. (fence_all f g LEADER c.fence.ensures.words i).calm })
+
+pub returns-in-Cleared-clause-operation : goal.returns-in-Cleared-clause-operation
+returns-in-Cleared-clause-operation c = inr (c.operations.ensures.fence LEADER _ _ c.fence.ensures.words)

@@ -1,4 +1,4 @@
-use Rattle.std.proofs.Common.{◌≡◌, ℕ, ◌+◌, ◌<◌, ◌≤◌, ◌∙◌, sym, ap, subst, arith, refl, ⊎_elim, [], ◌∷◌, slice_index}
+use Rattle.std.proofs.Common.{inl, ◌≡◌, ℕ, ◌+◌, ◌<◌, ◌≤◌, ◌∙◌, sym, ap, subst, arith, refl, ⊎_elim, [], ◌∷◌, slice_index}
 use Rattle.std.proofs.lemmas.Bool.{cases_lt}
 use Rattle.pmem_model.specs.Events.{calm_same}
 use Rattle.pmem_model.specs.Memory.{word_at}
@@ -20,6 +20,13 @@ returns-clause-rest c =
         at = λ i. calm_same (word_at c.args.nvm.now i)
             (word_at c.args.nvm.now i) refl;
       }))
+    ]
+
+pub returns-clause-operation : goal.returns-clause-operation
+returns-clause-operation c =
+    elim c.if-is_above.branch [
+      | then-is_above w ↦ rw w.nvm-is w.store.ensures.operation
+      | else-is_above w ↦ rw w.nvm-is (inl (λ i. refl))
     ]
 
 pub returns-clause-shows : goal.returns-clause-shows

@@ -6,7 +6,7 @@ use Rattle.page_store.specs.Slots.{Backup}
 use Rattle.page_store.specs.Stages.{stage_of}
 use Rattle.page_store.specs.declared.stage.PageStage.TheVariants.{Protected, Preparing}
 use Rattle.page_store.specs.declared.stage.Preparation.TheVariants.{FlushCopy, FenceCopy, StoreTag}
-use Rattle.page_store.proofs.Places.{frame_home}
+use Rattle.page_store.proofs.Places.{frame_home, frame_inside}
 use Rattle.page_store.proofs.Moves.{burst_in_page, calm_in_page, in_pages, step_same, at_stage, copies_on}
 use Rattle.page_store.proofs.Steps.{copied_on, copy_flushed, copy_fenced, copy_words}
 use Rattle.page_store.proofs.store.PageStore.copy_step.Goals as goal
@@ -61,3 +61,23 @@ returns-in-Preparing-default-FenceCopy-clause-shows c = λ v saved now phase h.
     step_same v page (Preparing c.args.core StoreTag) saved now phase c.enter-in-Preparing-default-FenceCopy.ensures
     (calm_in_page page (λ i. (fence i).calm)) c.requires.page h
     (copy_fenced fence (at_stage page (Preparing c.args.core FenceCopy) c.requires.page is h))
+
+pub returns-in-Protected-clause-operation : goal.returns-in-Protected-clause-operation
+returns-in-Protected-clause-operation c =
+    let page = c.args.page in
+    let e = copy_words (word_at c.args.nvm.now) (word_at c.copy.new.self) page
+    (rw (c.runtime_frame.ensures.frame, c.backup_frame.ensures.frame) at c.copy.ensures.words) in
+    inr (c.operations.ensures.burst c.args.core (frame_at (backup_frame page)) 512
+    (λ j. (word_at c.args.nvm.now (frame_at (runtime_frame page) + j)).cached) _ _ (omega arith)
+    (omega (arith, c.requires.page), frame_inside (backup_frame page)) e)
+
+pub returns-in-Preparing-default-FlushCopy-clause-operation : goal.returns-in-Preparing-default-FlushCopy-clause-operation
+returns-in-Preparing-default-FlushCopy-clause-operation c =
+    let page = c.args.page in
+    let e = rw (c.frame_at.ensures.at, c.backup_frame-in-Preparing-default-FlushCopy.ensures.frame) at c.flush.ensures.words in
+    inr (c.operations.ensures.flush c.args.core (frame_at (backup_frame page)) 64 _ _
+    (omega (arith, c.requires.page), frame_inside (backup_frame page)) e)
+
+pub returns-in-Preparing-default-FenceCopy-clause-operation : goal.returns-in-Preparing-default-FenceCopy-clause-operation
+returns-in-Preparing-default-FenceCopy-clause-operation c =
+    inr (c.operations.ensures.fence c.args.core _ _ c.fence.ensures.words)

@@ -1,4 +1,4 @@
-use Rattle.std.proofs.Common.{◌≡◌}
+use Rattle.std.proofs.Common.{◌≡◌, inr, arith}
 use Rattle.sls_base.specs.declared.fixed.TheConstants.{LEADER}
 use Rattle.pmem_model.specs.Events.{flush_calm}
 use Rattle.page_store.specs.Stages.{stage_of}
@@ -7,6 +7,8 @@ use Rattle.page_store.specs.declared.stage.PageStage.TheVariants.{Writable}
 use Rattle.page_store.specs.declared.stage.Writes.TheVariants.{Stored, Flushed}
 use Rattle.page_store.proofs.Moves.{calm_in_page, in_pages, step_same, at_stage}
 use Rattle.page_store.proofs.Steps.{frame_flushed}
+use Rattle.page_store.proofs.Places.{frame_inside}
+use Rattle.pmem_layout.specs.Places.{runtime_frame, frame_at}
 use Rattle.page_store.proofs.store.PageStore.flush.Goals as goal
 
 pub returns-in-Writable-default-Stored-clause-rest : goal.returns-in-Writable-default-Stored-clause-rest
@@ -27,3 +29,10 @@ returns-in-Writable-default-Stored-clause-shows c = λ v saved now h.
     step_same v page (Writable origin Flushed) saved now Open c.enter.ensures
     (calm_in_page page (flush_calm _ _ LEADER c.frame_at.result 512 c.flush.ensures.words)) c.requires.page h
     (frame_flushed origin e (at_stage page (Writable origin Stored) c.requires.page is h))
+
+pub returns-in-Writable-default-Stored-clause-operation : goal.returns-in-Writable-default-Stored-clause-operation
+returns-in-Writable-default-Stored-clause-operation c =
+    let page = c.args.page in
+    let e = rw (c.frame_at.ensures.at, c.runtime_frame.ensures.frame) at c.flush.ensures.words in
+    inr (c.operations.ensures.flush LEADER (frame_at (runtime_frame page)) 64 _ _
+    (omega (arith, c.requires.page), frame_inside (runtime_frame page)) e)

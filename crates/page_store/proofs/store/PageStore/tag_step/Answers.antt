@@ -1,6 +1,6 @@
-use Rattle.std.proofs.Common.{◌∙◌, sym, slice_index, [], ◌∷◌}
+use Rattle.std.proofs.Common.{◌∙◌, sym, slice_index, [], ◌∷◌, inr, arith}
 use Rattle.pmem_model.specs.Events.{flush_calm, fence_all}
-use Rattle.pmem_layout.specs.Places.{backup_tag_at}
+use Rattle.pmem_layout.specs.Places.{backup_tag_at, line_at}
 use Rattle.page_store.specs.Stages.{stage_of}
 use Rattle.page_store.specs.declared.stage.PageStage.TheVariants.{Preparing, Writable}
 use Rattle.page_store.specs.declared.stage.Preparation.TheVariants.{StoreTag, FlushTag, FenceTag}
@@ -8,6 +8,7 @@ use Rattle.page_store.specs.declared.stage.Origin.TheVariants.{Copy}
 use Rattle.page_store.specs.declared.stage.Writes.TheVariants.{Nothing}
 use Rattle.page_store.proofs.Moves.{burst_in_page, calm_in_page, in_pages, step_same, at_stage, tags_on, is_tag}
 use Rattle.page_store.proofs.Steps.{tag_stored, tag_flushed, tag_fenced}
+use Rattle.pmem_model.specs.PlaceLaws.{inside_word, inside_line}
 use Rattle.page_store.proofs.store.PageStore.tag_step.Goals as goal
 
 pub returns-in-Preparing-default-StoreTag-clause-rest : goal.returns-in-Preparing-default-StoreTag-clause-rest
@@ -51,3 +52,20 @@ returns-in-Preparing-default-FenceTag-clause-shows c = λ saved now phase h.
     step_same c.args.version page (Writable Copy Nothing) saved now phase c.enter-in-Preparing-default-FenceTag.ensures
     (calm_in_page page (λ i. (fence i).calm)) c.requires.page h
     (tag_fenced fence (at_stage page (Preparing c.args.core FenceTag) c.requires.page is h))
+
+pub returns-in-Preparing-default-StoreTag-clause-operation : goal.returns-in-Preparing-default-StoreTag-clause-operation
+returns-in-Preparing-default-StoreTag-clause-operation c =
+    let at = backup_tag_at c.args.page in
+    let e = rw c.backup_tag_at.ensures.at at c.burst.ensures.words in
+    inr (c.operations.ensures.burst c.args.core at 1 (slice_index (c.to_word.result ∷ [])) _ _ (omega arith)
+    (omega (arith, c.requires.page), inside_word at) e)
+
+pub returns-in-Preparing-default-FlushTag-clause-operation : goal.returns-in-Preparing-default-FlushTag-clause-operation
+returns-in-Preparing-default-FlushTag-clause-operation c =
+    let tag = backup_tag_at c.args.page in
+    let e = rw (c.line_at.ensures, c.backup_tag_at-in-Preparing-default-FlushTag.ensures.at) at c.flush.ensures.words in
+    inr (c.operations.ensures.flush c.args.core (line_at tag) 1 _ _ (omega (arith, c.requires.page), inside_line tag) e)
+
+pub returns-in-Preparing-default-FenceTag-clause-operation : goal.returns-in-Preparing-default-FenceTag-clause-operation
+returns-in-Preparing-default-FenceTag-clause-operation c =
+    inr (c.operations.ensures.fence c.args.core _ _ c.fence.ensures.words)
