@@ -12,7 +12,8 @@ use Rattle.sls_base.specs.declared.thread.Thread.{Thread as ThreadRecord}
 use Rattle.link_lists.specs.Lists.{list_at}
 use Rattle.ipc_note.specs.declared.lists.TheConstants.{RUN_QUEUE}
 use Rattle.mem_space.specs.declared.memory.MemPage.{MemPage}
-use Rattle.pmem_model.specs.Memory.{Memory, SameHomes, count_up}
+use Rattle.pmem_model.specs.Memory.{Memory, word_at, SameHomes, count_up}
+use Rattle.pmem_operations.specs.Operations.{IsBurst}
 use Rattle.pmem_layout.specs.Places.{runtime_frame}
 use Rattle.plain_state.specs.declared.objects.Region.{Region}
 use Rattle.plain_state.specs.declared.calls.Call.TheVariants.{Get}
@@ -43,7 +44,7 @@ use Rattle.kernel_calls.proofs.Entries.{entries_kept}
 use Rattle.kernel_calls.proofs.Contents.{counted_again, regions_same, told_same}
 use Rattle.kernel_calls.proofs.Shown.{few_places, placed_any, stored_any}
 use Rattle.kernel_calls.proofs.Storing.{StandStill}
-use Rattle.kernel_calls.proofs.StoredPages.{burst_stored, is_first}
+use Rattle.kernel_calls.proofs.StoredPages.{burst_stored, is_first, page_burst}
 
 -- Bytes that are covered.
 
@@ -194,6 +195,7 @@ more_pass test other old new more s = record {
   homes = s.homes;
   counts = s.counts;
   ops = s.ops;
+  operations = s.operations;
 }
 
 pub got_stores : (s : State) (thread : ThreadRecord) (input bytes : List ℕ) (old new : Memory) →
@@ -216,15 +218,24 @@ run_stores o rest space at bytes k page below sees =
 words_within : (at count : ℕ) → 1 ≤ count → at + count ≤ PAGE_BYTES → at / 8 + words_of at count ≤ FRAME_WORDS
 words_within at count some fits = omega (arith, some, fits)
 
+some_words : (at count : ℕ) → 1 ≤ count → 1 ≤ words_of at count
+some_words at count some = omega (arith, some)
+
+-- a store on a page is one burst
+pub is_burst : (o : Objects) (space at count : ℕ) (old new : Memory) → 1 ≤ count → at % PAGE_BYTES + count ≤ PAGE_BYTES → (s : StoresOn o space at count old new) → s.page.page < PAGES → IsBurst (word_at old) (word_at new)
+is_burst o space at count old new some fits s range =
+    page_burst s.page.page (at % PAGE_BYTES / 8) (words_of (at % PAGE_BYTES) count) old new range (some_words (at % PAGE_BYTES) count some) (words_within (at % PAGE_BYTES) count some fits) s.words
+
 module _ (test : ℕ → Bool) (o : Objects) (rest : Rest) (space : ℕ) where
   -- so by one burst on a page that passes the test
   pub one_burst : (at count : ℕ) (old new : Memory) → 1 ≤ count → at % PAGE_BYTES + count ≤ PAGE_BYTES → (s : StoresOn o space at count old new) → test s.page.page ≡ true → s.page.page < PAGES → StoresPages test old new
   one_burst at count old new some fits s passes range =
-      burst_stored test s.page.page (at % PAGE_BYTES / 8) (words_of (at % PAGE_BYTES) count) passes range (words_within (at % PAGE_BYTES) count some fits) old new s.words
+      burst_stored test s.page.page (at % PAGE_BYTES / 8) (words_of (at % PAGE_BYTES) count) passes range (some_words (at % PAGE_BYTES) count some) (words_within (at % PAGE_BYTES) count some fits) old new s.words
 
 -- and by two, one after the other
-pub two_bursts : (test : ℕ → Bool) (old between new : Memory) → StoresPages test old between → StoresPages test between new → between.ops ≡ count_up old.ops → new.ops ≡ count_up between.ops → StoresPages test old new
-two_bursts test old between new one two first second = record {
+pub two_bursts : (test : ℕ → Bool) (old between new : Memory) → StoresPages test old between → StoresPages test between new → between.ops ≡ count_up old.ops → new.ops ≡ count_up between.ops →
+    IsBurst (word_at old) (word_at between) → IsBurst (word_at between) (word_at new) → StoresPages test old new
+two_bursts test old between new one two first second burst again = record {
   words = λ at. elim (two.words at) [
     | inl same ↦ elim (one.words at) [
       | inl before ↦ inl (same ∙ before)
@@ -236,6 +247,7 @@ two_bursts test old between new one two first second = record {
   homes = λ k. two.homes k ∙ one.homes k;
   counts = two.counts ∙ ap (λ (m : Memory). record m { banks = new.banks; ops = new.ops }) one.counts;
   ops = inr (inr (second ∙ ap count_up first));
+  operations = λ core. inr (word_at between, inl burst, inr (word_at new, inl again, λ at. refl));
 }
 
 -- where the same frames are at home, a space shows the same pages

@@ -12,6 +12,9 @@ use Rattle.rv_core.specs.declared.registers.Regs.{Regs}
 use Rattle.pmem_model.specs.Words as events
 use Rattle.pmem_model.specs.Words.{Word, is_within}
 use Rattle.pmem_model.specs.Memory.{Memory, word_at}
+use Rattle.pmem_model.specs.PlaceLaws.{inside_at}
+use Rattle.pmem_layout.specs.Places.{runtime_frame}
+use Rattle.pmem_operations.specs.Operations.{IsBurst}
 use Rattle.mem_space.specs.declared.memory.MemPage.{MemPage}
 use Rattle.plain_state.specs.declared.effect.ByteStore.{ByteStore}
 use Rattle.plain_state.specs.declared.effect.Place.{Place}
@@ -34,6 +37,7 @@ none_stored test m = record {
   homes = λ k. refl;
   counts = refl;
   ops = inl refl;
+  operations = λ core. inl (inl (λ at. refl));
 }
 
 -- To which page a store's bytes go.
@@ -71,7 +75,20 @@ stored_on s thread op at value content page some covered e =
 
 -- A burst on a page.
 
-module _ (test : ℕ → Bool) (page first count : ℕ) (passes : test page ≡ true) (range : page < PAGES) (within : first + count ≤ FRAME_WORDS) where
+pub page_burst : (page first count : ℕ) (old new : Memory) → page < PAGES → 1 ≤ count → first + count ≤ FRAME_WORDS → StoresWords page first count old new → IsBurst (word_at old) (word_at new)
+page_burst page first count old new range some within s = record {
+  at = word_of_page page first;
+  count = count;
+  value = λ k. (word_at new (word_of_page page first + k)).cached;
+  most = omega (arith, within);
+  inside = (
+    omega (arith, range, some, within),
+    inside_at (word_of_page page first) (runtime_frame page) first count (omega arith) (omega (arith, some, within)) within,
+  );
+  words = s.words;
+}
+
+module _ (test : ℕ → Bool) (page first count : ℕ) (passes : test page ≡ true) (range : page < PAGES) (some : 1 ≤ count) (within : first + count ≤ FRAME_WORDS) where
   word_stored : (w : Word) (value at : ℕ) (inside : Bool) → is_within (word_of_page page first) count at ≡ inside →
       ((if inside then events.stored value w else w) ≡ w) ⊎ IsOnPage test at
   word_stored w value at false is = inl refl
@@ -102,4 +119,5 @@ module _ (test : ℕ → Bool) (page first count : ℕ) (passes : test page ≡ 
         homes = s.homes;
         counts = s.counts ∙ sym (ap (λ (n : ℕ). record old { banks = new.banks; ops = n }) one);
         ops = inr (inl one);
+        operations = λ core. inl (inr (word_at new, inl (page_burst page first count old new range some within s), λ at. refl));
       }

@@ -8,6 +8,7 @@ use Rattle.rv_table.specs.Decoded.{decoded}
 use Rattle.rv_core.specs.Effect.{effect}
 use Rattle.rv_core.specs.declared.registers.Plan.{Plan}
 use Rattle.pmem_model.specs.Memory.{Memory, word_at, SameHomes, count_up}
+use Rattle.pmem_operations.specs.Operations.{AreOperations}
 use Rattle.mem_space.specs.declared.memory.MemPage.{MemPage}
 use Rattle.plain_state.specs.Objects.{OutputRing, page_of_channel, regions_of}
 use Rattle.plain_state.specs.States.{State}
@@ -99,13 +100,15 @@ abbrev pub AtMostTwo : Memory → Memory → Type 0
 AtMostTwo old new = (new.ops ≡ old.ops) ⊎ ((new.ops ≡ count_up old.ops) ⊎ (new.ops ≡ count_up (count_up old.ops)))
 
 -- Something was stored to pages that pass a test: each word that has changed stands in the runtime frame of one of
--- them, and its durable value is as it was. The same frames are at home, and it was at most two operations.
+-- them, and its durable value is as it was. The same frames are at home. It was at most two operations by whichever
+-- core, and all words are what these made of them.
 pub record StoresPages (test : ℕ → Bool) (old new : Memory) : Type 0 where
   pub words : (at : ℕ) → (word_at new at ≡ word_at old at) ⊎ IsOnPage test at
   pub durable : (at : ℕ) → (word_at new at).durable ≡ (word_at old at).durable
   pub homes : SameHomes old new
   pub counts : new ≡ record old { banks = new.banks; ops = new.ops }
   pub ops : AtMostTwo old new
+  pub operations : (core : ℕ) → AreOperations core 2 (word_at old) (word_at new)
 
 -- The kernel's values, with what doesn't stand in its objects, are a state of a world, whose entries the rings count.
 -- The numbers in use are that world's, the memory has its pages' bytes, and the entries that wait stand on the pages of

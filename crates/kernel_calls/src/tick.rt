@@ -193,6 +193,8 @@ impl Calls {
             → result ≡ plain.tick_reply w core }
         ensures words { (w : World) (rest : Rest) → Holds self.old accepted.now nvm.old rest w
             → StoresPages (plain.must_store w core) nvm.old nvm.new }
+        // An idle core leaves the memory alone.
+        ensures idle { result ≡ ReplyNames.Idle → nvm.new ≡ nvm.old }
         // What no plain state tells of the objects is left alone, and of one that the tick makes it is as made.
         ensures untold { KeepsUntold self.old.runtime.objects self.new.runtime.objects }
         // What the plain machine's tick doesn't change has its slot and its list as before.

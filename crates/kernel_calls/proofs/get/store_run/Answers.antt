@@ -1,4 +1,4 @@
-use Rattle.std.proofs.Common.{◌≡◌, ◌+◌, ◌-◌, ◌%◌, ◌∙◌, ℕ, Bool, List, length, take, drop, ap, sym, subst, true, arith}
+use Rattle.std.proofs.Common.{◌≡◌, ◌≤◌, ◌+◌, ◌-◌, ◌%◌, ◌∙◌, ℕ, Bool, List, length, take, drop, ap, sym, subst, true, arith}
 use Rattle.std.proofs.Math.Nat.{add-zero}
 use Rattle.sls_base.specs.declared.limits.TheConstants.{PAGE_BYTES}
 use Rattle.sls_base.specs.declared.rights.TheConstants.{WRITE}
@@ -9,7 +9,7 @@ use Rattle.kobj_table.specs.Objects.{Rest, object_at}
 use Rattle.page_bytes.specs.Bytes.{SeesPage}
 use Rattle.kernel_calls.specs.Instructions.{ShowsStored}
 use Rattle.kernel_calls.specs.Moves.{is_stored_on, stores_from, HasStored, StoresOn}
-use Rattle.kernel_calls.proofs.Getting.{behind_length, covered_fewer, covered_parts, first_length, joined, one_burst, parts_are, run_stores, still_shown, two_bursts}
+use Rattle.kernel_calls.proofs.Getting.{behind_length, covered_fewer, covered_parts, first_length, is_burst, joined, one_burst, parts_are, run_stores, still_shown, two_bursts}
 use Rattle.kernel_calls.proofs.get.store_run.Goals as goal
 
 -- Where the bytes stand on one page.
@@ -108,8 +108,14 @@ returns-else-bytes-room-clause-words c rest =
     let s = subst (λ (b : ℕ). StoresOn o space b (length first) old between) c.from-begin.ensures c.store_on_page-else-bytes-room.ensures.words in
     let t = subst (λ (b : ℕ). StoresOn o space (b + room) (length behind) between new) c.from-begin.ensures c.store_on_page-else-bytes-room-2.ensures.words in
     let seen : SeesPage o space WRITE (at + 0) s.page = subst (λ (a : ℕ). SeesPage o space WRITE a s.page) (sym (add-zero at)) s.seen in
-    let one = one_burst test o rest space at (length first) old between (omega (arith, size)) (omega (arith, size)) s (run_stores o rest space at bytes 0 s.page (omega (arith, some)) seen)
-    (c.stores_at_addresses.ensures.range o rest space WRITE at s.page (c.requires.apart rest) s.seen s.stored) in
-    let two = one_burst test o rest space (at + room) (length behind) between new (omega (arith, size', past)) (omega (arith, size', most)) t (run_stores o rest space at bytes room t.page (omega (arith, past)) t.seen)
-    (c.stores_at_addresses.ensures.range o rest space WRITE (at + room) t.page (c.requires.apart rest) t.seen t.stored) in
+    let some_first : 1 ≤ length first = omega (arith, size) in
+    let fits_first : at % PAGE_BYTES + length first ≤ PAGE_BYTES = omega (arith, size) in
+    let some_behind : 1 ≤ length behind = omega (arith, size', past) in
+    let fits_behind : (at + room) % PAGE_BYTES + length behind ≤ PAGE_BYTES = omega (arith, size', most) in
+    let range_first = c.stores_at_addresses.ensures.range o rest space WRITE at s.page (c.requires.apart rest) s.seen s.stored in
+    let range_behind = c.stores_at_addresses.ensures.range o rest space WRITE (at + room) t.page (c.requires.apart rest) t.seen t.stored in
+    let one = one_burst test o rest space at (length first) old between some_first fits_first s (run_stores o rest space at bytes 0 s.page (omega (arith, some)) seen) range_first in
+    let two = one_burst test o rest space (at + room) (length behind) between new some_behind fits_behind t (run_stores o rest space at bytes room t.page (omega (arith, past)) t.seen) range_behind in
     two_bursts test old between new one two (ap (λ (m : Memory). m.ops) s.words.counts) (ap (λ (m : Memory). m.ops) t.words.counts)
+    (is_burst o space at (length first) old between some_first fits_first s range_first)
+    (is_burst o space (at + room) (length behind) between new some_behind fits_behind t range_behind)

@@ -97,5 +97,5 @@ returns-clause-words c rest =
     let covered = c.bytes_on_one_page.ensures.covered regions WRITE at (size_of c.args.op) size.0 size.1 ∙ some_found (page_at objects) (place_in at) (find (covers WRITE at) regions) (page_of rest.content page) some in
     let sees : SeesPage o c.args.thread.now.space WRITE at page = λ content. search rules in
     let range = c.stores_at_addresses.ensures.range o rest c.args.thread.now.space WRITE at page (c.requires.apart rest) sees (c.requires.page.stored page sees) in
-    burst_stored _ page.page _ 1 (stored_on (state_of o rest) c.args.thread.now c.args.op at c.args.value rest.content page size.0 covered some) range (omega arith) c.args.nvm.now c.store_number.new.nvm
+    burst_stored _ page.page _ 1 (stored_on (state_of o rest) c.args.thread.now c.args.op at c.args.value rest.content page size.0 covered some) range (omega arith) (omega arith) c.args.nvm.now c.store_number.new.nvm
     c.store_number.ensures.stores

@@ -140,7 +140,7 @@ returns-clause-words c input w rest devices finds unrefused =
     let can = can_put c.unrefused_call_meets_all.ensures.needs c.unrefused_call_meets_all.ensures.besides o rest w c.args.me thread unrefused id ring (c.id_named-id.ensures rest) c.in-Some.ensures.some
     (finds.found.attached.rings id) in
     let below = can.output in
-    burst_stored (stores_to (state_of o rest) (put_effect (state_of o rest) thread)) (page_of_channel ring.channel) _ 8 (put_on (state_of o rest) thread ring.channel can.named_is) (omega (arith, below)) (place_within ring.count)
+    burst_stored (stores_to (state_of o rest) (put_effect (state_of o rest) thread)) (page_of_channel ring.channel) _ 8 (put_on (state_of o rest) thread ring.channel can.named_is) (omega (arith, below)) (omega arith) (place_within ring.count)
     c.args.nvm.now c.place.new.nvm c.place.ensures.stores
 
 pub returns-clause-leaves : goal.returns-clause-leaves
