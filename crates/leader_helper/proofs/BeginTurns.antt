@@ -25,7 +25,7 @@ all_count : (l : Leader) (r : Rooms) (so : RecordStage → Bool) → AllIdle r.r
 all_count l r so idle first = ap (λ (test : ℕ → Bool). count_of test OBJECTS)
     (fun_ext (λ id. and_true (is_changed l id) (so (stage_at r.roots id)) (ap so (idle id) ∙ first)))
 
-pub begin_left : (l : Leader) (r : Rooms) → l.stage ≡ at.Pages 0 → AllIdle r.roots → r.numbers.work.stage ≡ logs.Rest
+pub begin_left : (l : Leader) (r : Rooms) → l.stage ≡ at.Gather → AllIdle r.roots → r.numbers.work.stage ≡ logs.Rest
     → r.committer.version ≡ steps.Store
     → turns_left l r ≡ pages_left r + 4 * count_of (is_changed l) OBJECTS + 2 * numbers_changed r + 17
 begin_left l r stage idle log committer =

@@ -1,12 +1,12 @@
 -- What is kept where the next version is committed.
-use Rattle.std.specs.Prelude.{◌≡◌, ◌≢◌, ◌⊎◌, ◌+◌, ◌-◌, ◌≤◌, ℕ, Bool, true, false, if◌then◌else◌, Option}
+use Rattle.std.specs.Prelude.{◌≡◌, ◌≢◌, ◌⊎◌, ◌+◌, ◌-◌, ℕ, Bool, true, false, if◌then◌else◌, Option}
 use Rattle.std.proofs.Common.{◌∙◌, ap, arith, inl, inr, refl, subst, sym}
 use Rattle.pmem_model.specs.Words.{Word}
 use Rattle.kobj_codec.specs.declared.obj.Obj.{Obj}
 use Rattle.version_commit.specs.declared.committer.Committer.{Committer}
 use Rattle.version_commit.specs.declared.step.Step.{Step}
 use Rattle.version_commit.specs.declared.step.Step.TheVariants as steps
-use Rattle.version_commit.specs.OnWay.{next as next_step}
+use Rattle.version_commit.specs.OnWay.{next as next_step, turns_of as commit_turns}
 use Rattle.alloc_journal.specs.declared.journal.Stage.{Stage as LogStage}
 use Rattle.alloc_journal.specs.declared.journal.Stage.TheVariants as logs
 use Rattle.alloc_journal.specs.Sets.{has}
@@ -22,7 +22,7 @@ use Rattle.leader_helper.specs.declared.stage.Stage.{Stage}
 use Rattle.leader_helper.specs.declared.stage.Stage.TheVariants as at
 use Rattle.leader_helper.specs.Stages.{IsRecordDone, page_phase}
 use Rattle.leader_helper.specs.Leads.{AreNext, IsWriting, is_changed}
-use Rattle.leader_helper.specs.Turns.{commit_turns, numbers_changed, turns_at, turns_left}
+use Rattle.leader_helper.specs.Turns.{numbers_changed, turns_left}
 use Rattle.leader_helper.proofs.Turned.{turns_now}
 use Rattle.leader_helper.proofs.Writing.{at_stage}
 
@@ -55,6 +55,7 @@ is_ready {l} {r} {f} {v} {c} {next} e h n =
     }
 
 pub is_commit : (stage : Stage) → (stage ≡ at.Commit) ⊎ (stage ≢ at.Commit)
+is_commit at.Gather = inr (λ e. cc)
 is_commit (at.Pages page) = inr (λ e. cc)
 is_commit (at.Records id) = inr (λ e. cc)
 is_commit at.Log = inr (λ e. cc)
@@ -139,16 +140,15 @@ commit_last_turn l r s f v c e last takes h =
     turns_now l r at.Commit e ∙ commit_last _ _ (numbers_changed r) r.numbers.work.entries (ap commit_turns last) w.log.entries
     (ap redo_left takes.work ∙ redo_logged r.numbers.work w.log.stage)
 
-settle_last : (a b n d : ℕ) → d ≡ n → b ≡ d + 5 → b + 1 ≤ a + (n + 5) + 1
+settle_last : (a b n d : ℕ) → d ≡ n → b ≡ d + 5 → a + (n + 5) + 1 ≡ b + 1 + a
 settle_last a b n d p q = omega (arith, p, q)
 
--- a write-back may have been the last
+-- a write-back may have been the last, which spares what the commit still takes
 pub settle_turn : (l : Leader) (r s : Rooms) (f : ℕ → Word) (v : ℕ) (c : Contents) → l.stage ≡ at.Commit
     → TakesLogged r.numbers s.numbers → IsWriting l r f v c
-    → turns_left (record l { stage = at.Apply }) s ≤ turns_left l r
+    → turns_left l r ≡ turns_left (record l { stage = at.Apply }) s + commit_turns r.committer.version
 settle_turn l r s f v c e takes h =
     let w = at_stage at.Commit e h in
-    let least : turns_left (record l { stage = at.Apply }) s ≤ turns_at at.Commit l r =
-    settle_last _ _ (numbers_changed r) r.numbers.work.entries w.log.entries
-    (ap redo_left takes.work ∙ redo_logged r.numbers.work w.log.stage) in
-    subst (λ (n : ℕ). turns_left (record l { stage = at.Apply }) s ≤ n) (sym (turns_now l r at.Commit e)) least
+    turns_now l r at.Commit e
+    ∙ settle_last _ _ (numbers_changed r) r.numbers.work.entries w.log.entries
+    (ap redo_left takes.work ∙ redo_logged r.numbers.work w.log.stage)

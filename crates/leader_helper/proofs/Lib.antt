@@ -1,6 +1,7 @@
 pub mod Applies
 pub mod Commits
 pub mod Counted
+pub mod Gathers
 pub mod LogSteps
 pub mod PageSteps
 pub mod RecordSteps

@@ -35,7 +35,7 @@ log_alike : (stage : LogStage) (r s : Rooms) → s.numbers ≡ r.numbers → log
 log_alike logs.Rest r s e = ap (λ (n : InUse). changes n.work.committed n.running + 5) (sym e)
 log_alike stage r s e = ap (λ (n : InUse). log_left n.work) (sym e)
 
-log_as_many : (l : Leader) (r : Rooms) (pages : PageStore)
+pub log_as_many : (l : Leader) (r : Rooms) (pages : PageStore)
     → turns_from_log l r ≡ turns_from_log l (record r { pages = pages })
 log_as_many l r pages = ap (λ (n : ℕ). n + 1 + turns_from_tags l r) (log_alike r.numbers.work.stage r (record r { pages = pages }) refl)
 

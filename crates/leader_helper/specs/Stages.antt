@@ -25,11 +25,14 @@ is_before_commit stage = true
 
 -- the leader has fenced the pages that it flushed
 abbrev pub page_phase : Stage → PagePhase
+page_phase at.Gather = Open
 page_phase (at.Pages page) = Open
 page_phase stage = Fenced
 
--- No core prepares a page. Those before the leader's place are flushed, and all of them once it is past the pages.
+-- Cores may still prepare pages at first, and then no core does. Pages before the leader's place are flushed, and all of
+-- them once it is past the pages.
 abbrev pub IsPageDone : Stage → ℕ → PageStage → Type 0
+IsPageDone at.Gather page stage = Unit {0}
 IsPageDone (at.Pages first) page stage = IsSettled stage × (page < first → IsFlushed stage)
 IsPageDone other page stage = IsFlushed stage
 
@@ -68,6 +71,7 @@ pub record IsDoneFrom (first : ℕ) (todo begun done : RecordStage → Type 0) (
 
 -- how far the record of a changed object has come
 abbrev pub HasCome : Stage → ℕ → RecordStage → Type 0
+HasCome at.Gather id stage = IsIdle stage
 HasCome (at.Pages page) id stage = IsIdle stage
 HasCome (at.Records first) id stage = IsDoneFrom first IsIdle IsStored IsWritten id stage
 HasCome at.Log id stage = IsWritten stage
@@ -98,6 +102,7 @@ pub record IsLogging (numbers : InUse) : Type 0 where
 
 -- how far the log has come
 abbrev pub IsLogDone : Stage → InUse → Type 0
+IsLogDone at.Gather numbers = numbers.work.stage ≡ logs.Rest
 IsLogDone (at.Pages page) numbers = numbers.work.stage ≡ logs.Rest
 IsLogDone (at.Records id) numbers = numbers.work.stage ≡ logs.Rest
 IsLogDone at.Log numbers = (numbers.work.stage ≡ logs.Rest) ⊎ IsLogging numbers

@@ -12,8 +12,7 @@ use Rattle.page_store.specs.Stages.{stage_of, state_of}
 use Rattle.page_store.specs.declared.stage.PageStage.{PageStage}
 use Rattle.page_store.specs.declared.stage.PageStage.TheVariants.{Writable}
 use Rattle.page_store.specs.declared.stage.Writes.TheVariants.{Stored}
-use Rattle.version_commit.specs.declared.step.Step.{Step}
-use Rattle.version_commit.specs.declared.step.Step.TheVariants as steps
+use Rattle.version_commit.specs.OnWay.{turns_of as commit_turns}
 use Rattle.version_rooms.specs.declared.rooms.Rooms.{Rooms}
 use Rattle.leader_helper.specs.declared.leader.Leader.{Leader}
 use Rattle.leader_helper.specs.declared.stage.Stage.{Stage}
@@ -74,14 +73,8 @@ abbrev pub log_turns : LogStage → Rooms → ℕ
 log_turns logs.Rest r = numbers_changed r + 5
 log_turns stage r = log_left r.numbers.work
 
--- The commit stores, flushes and fences.
-abbrev pub commit_turns : Step → ℕ
-commit_turns steps.Store = 3
-commit_turns steps.Flush = 2
-commit_turns steps.Fence = 1
-
--- After the commit the log is redone, and the cores resume. Before it comes the commit, before that the tags with their
--- fence, the fence of the records, the log, the records, and the pages with their fence.
+-- After the commit the log is redone, and the cores resume. Before it comes the commit, which stores, flushes and fences,
+-- before that the tags with their fence, the fence of the records, the log, the records, and the pages with their fence.
 
 abbrev pub turns_from_commit : Rooms → ℕ
 turns_from_commit r = commit_turns r.committer.version + (numbers_changed r + 5) + 1
@@ -92,8 +85,10 @@ turns_from_tags l r = tags_left l r + 1 + turns_from_commit r
 abbrev pub turns_from_log : Leader → Rooms → ℕ
 turns_from_log l r = log_turns r.numbers.work.stage r + 1 + turns_from_tags l r
 
--- how many turns of the leader are left until its checkpoint is at its end
+-- How many turns of the leader are left until its checkpoint is at its end. Where it waits for cores that prepare a page
+-- no turn is its own: the first of them is that of the first page.
 abbrev pub turns_at : Stage → Leader → Rooms → ℕ
+turns_at at.Gather l r = pages_left r + 1 + records_left l r + turns_from_log l r
 turns_at (at.Pages page) l r = pages_left r + 1 + records_left l r + turns_from_log l r
 turns_at (at.Records id) l r = records_left l r + turns_from_log l r
 turns_at at.Log l r = turns_from_log l r

@@ -48,7 +48,7 @@ impl Leader {
         let changed = changed_objects(objects, rooms, nvm);
         set_numbers(objects, rooms);
         Leader {
-            stage: Stage::Pages(0),
+            stage: Stage::Gather,
             changed,
         }
     }

@@ -1,8 +1,10 @@
 //! The turns of the leader that write the records of the objects that changed.
 
 ghost use Rattle.std.specs.Prelude.{◌≡◌, ◌⊎◌, ◌<◌, ℕ, IfSome, slice_index};
+ghost use Rattle.sls_base.specs.declared.fixed.TheConstants.{LEADER};
 ghost use Rattle.sls_base.specs.declared.limits.TheConstants.{OBJECTS};
-ghost use Rattle.pmem_model.specs.Memory.{word_at, SameHomes, count_up};
+ghost use Rattle.pmem_model.specs.Memory.{word_at, SameHomes, count_up, KeepsCounts};
+ghost use Rattle.pmem_operations.specs.Operations.{IsAtMostOne};
 ghost use Rattle.kobj_codec.specs.Objects.{IsObj};
 ghost use Rattle.object_records.specs.Records.{record_at as recorded};
 ghost use Rattle.object_root.specs.Shows.{IsRecordOf};
@@ -40,6 +42,8 @@ impl Leader {
             → IsWriting self.new rooms.new (word_at nvm.new) v c }
         ensures turn { IsTurn self.old self.new rooms.old rooms.new }
         ensures homes { SameHomes nvm.old nvm.new }
+        ensures counts { KeepsCounts nvm.old nvm.new }
+        ensures operation { IsAtMostOne LEADER (word_at nvm.old) (word_at nvm.new) }
         ensures one { (nvm.new.ops ≡ nvm.old.ops) ⊎ (nvm.new.ops ≡ count_up nvm.old.ops) }
     {
         match next_changed(self, first) {
@@ -69,6 +73,8 @@ impl Leader {
             → IsWriting self.new rooms.new (word_at nvm.new) v c }
         ensures turn { IsTurn self.old self.new rooms.old rooms.new }
         ensures homes { SameHomes nvm.old nvm.new }
+        ensures counts { KeepsCounts nvm.old nvm.new }
+        ensures operation { IsAtMostOne LEADER (word_at nvm.old) (word_at nvm.new) }
         ensures one { (nvm.new.ops ≡ nvm.old.ops) ⊎ (nvm.new.ops ≡ count_up nvm.old.ops) }
     {
         let words = words_of(objects, id);

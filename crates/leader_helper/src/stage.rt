@@ -5,6 +5,8 @@ use sls_base::{ObjId, PageNo};
 /// What the leader does next.
 #[derive(Clone, Copy, PartialEq, Eq, Debug)]
 pub enum Stage {
+    /// Cores that prepare a page finish it first.
+    Gather,
     /// It flushes the pages that were stored to, from this one on, and then fences.
     Pages(PageNo),
     /// It writes the records of the objects that changed, from this one on, and then begins the log.

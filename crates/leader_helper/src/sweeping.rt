@@ -11,7 +11,7 @@ ghost use Rattle.object_records.specs.Ranges.{AreUntoldInRange, HasFixedSlots, I
 ghost use Rattle.object_records.specs.Pages.{is_content};
 ghost use Rattle.object_records.specs.Marks.{marked};
 ghost use Rattle.page_store.specs.Stages.{stage_of};
-ghost use Rattle.tree_walk.specs.Sweep.{threads_left};
+ghost use Rattle.tree_walk.specs.Sweep.{left_at, threads_left};
 ghost use Rattle.saved_state.specs.Running.{CanBeSaved};
 ghost use Rattle.leader_helper.specs.Saving.{IsRunning, words_kept};
 ghost use Rattle.leader_helper.specs.Sweep.{freshened, is_zeroed_alone, is_zeroed_below, ReadAsZeros};
@@ -27,6 +27,8 @@ use version_rooms::Rooms;
 pub fn sweep(objects: &mut Objects, rooms: &Rooms)
     ensures state { (rest : Rest) → ReadAsZeros rooms.now rest.content
         → state_of objects.new rest ≡ plain.swept (state_of objects.old rest) }
+    ensures slots { (rest : Rest) (i : ℕ) → i < OBJECTS → slot_at objects.new i
+        ≡ freshened (is_zeroed_below rooms.now PAGES) (left_at (state_of objects.old rest) objects.old i) }
     ensures threads { (rest : Rest) (i : ℕ) → i < OBJECTS
         → list_at objects.new.links i ≡ threads_left (state_of objects.old rest) objects.old i }
     ensures strays { HasNoStrays objects.old → HasNoStrays objects.new }

@@ -1,9 +1,11 @@
 //! A turn of the leader at each stage.
 
 ghost use Rattle.std.specs.Prelude.{◌≡◌, ◌≢◌, ◌⊎◌, ◌+◌, ◌<◌, ℕ, Option};
+ghost use Rattle.sls_base.specs.declared.fixed.TheConstants.{LEADER};
 ghost use Rattle.sls_base.specs.declared.limits.TheConstants.{OBJECTS, PAGES};
-ghost use Rattle.pmem_model.specs.Memory.{word_at, AllHome, SameHomes, count_up};
-ghost use Rattle.page_store.specs.Stages.{stage_of, state_of, after};
+ghost use Rattle.pmem_model.specs.Memory.{word_at, AllHome, SameHomes, count_up, KeepsCounts};
+ghost use Rattle.pmem_operations.specs.Operations.{IsAtMostOne};
+ghost use Rattle.page_store.specs.Stages.{stage_of, state_of, after, IsSettled};
 ghost use Rattle.durable_state.specs.Parts.{Parts};
 ghost use Rattle.version_rooms.specs.Rooms.{Contents};
 ghost use Rattle.leader_helper.specs.First.{IsFirstFrom};
@@ -18,6 +20,24 @@ use sls_base::{ObjId, PageNo};
 use version_rooms::Rooms;
 
 impl Leader {
+    /// Flushes the first page that was stored to, once no core prepares a page any more.
+    pub(crate) fn flush_first(&mut self, rooms: &mut Rooms, nvm: &mut Pmem)
+        requires stage { self.old.stage ≡ Stage.Gather }
+        requires led { IsLedTo self.old rooms.old (word_at nvm.old) }
+        requires home { AllHome nvm.old }
+        requires settled { (page : ℕ) → page < PAGES → IsSettled (stage_of rooms.old.pages page) }
+        ensures writes { (v : ℕ) (c : Contents) → IsWriting self.old rooms.old (word_at nvm.old) v c
+            → IsWriting self.new rooms.new (word_at nvm.new) v c }
+        ensures turn { IsTurn self.old self.new rooms.old rooms.new }
+        ensures homes { SameHomes nvm.old nvm.new }
+        ensures counts { KeepsCounts nvm.old nvm.new }
+        ensures operation { IsAtMostOne LEADER (word_at nvm.old) (word_at nvm.new) }
+        ensures one { nvm.new.ops ≡ count_up nvm.old.ops }
+    {
+        self.stage = Stage::Pages(0);
+        self.flush_next(rooms, nvm, 0);
+    }
+
     /// Flushes the next page that was stored to, from this one on. Behind the last it fences.
     pub(crate) fn flush_next(&mut self, rooms: &mut Rooms, nvm: &mut Pmem, first: PageNo)
         requires stage { self.old.stage ≡ Stage.Pages first }
@@ -27,6 +47,8 @@ impl Leader {
             → IsWriting self.new rooms.new (word_at nvm.new) v c }
         ensures turn { IsTurn self.old self.new rooms.old rooms.new }
         ensures homes { SameHomes nvm.old nvm.new }
+        ensures counts { KeepsCounts nvm.old nvm.new }
+        ensures operation { IsAtMostOne LEADER (word_at nvm.old) (word_at nvm.new) }
         ensures one { nvm.new.ops ≡ count_up nvm.old.ops }
     {
         match next_stored(rooms, first) {
@@ -49,6 +71,8 @@ impl Leader {
             → IsWriting self.new rooms.new (word_at nvm.new) v c }
         ensures turn { IsTurn self.old self.new rooms.old rooms.new }
         ensures homes { SameHomes nvm.old nvm.new }
+        ensures counts { KeepsCounts nvm.old nvm.new }
+        ensures operation { IsAtMostOne LEADER (word_at nvm.old) (word_at nvm.new) }
         ensures one { (nvm.new.ops ≡ count_up nvm.old.ops) ⊎ (nvm.new.ops ≡ nvm.old.ops) }
     {
         if rooms.log_step(nvm) {
@@ -66,6 +90,8 @@ impl Leader {
             → IsWriting self.new rooms.new (word_at nvm.new) v c }
         ensures turn { IsTurn self.old self.new rooms.old rooms.new }
         ensures homes { SameHomes nvm.old nvm.new }
+        ensures counts { KeepsCounts nvm.old nvm.new }
+        ensures operation { IsAtMostOne LEADER (word_at nvm.old) (word_at nvm.new) }
         ensures one { nvm.new.ops ≡ count_up nvm.old.ops }
     {
         rooms.fence_objects(nvm);
@@ -81,6 +107,8 @@ impl Leader {
             → IsWriting self.new rooms.new (word_at nvm.new) v c }
         ensures turn { IsTurn self.old self.new rooms.old rooms.new }
         ensures homes { SameHomes nvm.old nvm.new }
+        ensures counts { KeepsCounts nvm.old nvm.new }
+        ensures operation { IsAtMostOne LEADER (word_at nvm.old) (word_at nvm.new) }
         ensures one { (nvm.new.ops ≡ nvm.old.ops) ⊎ (nvm.new.ops ≡ count_up nvm.old.ops) }
     {
         match next_changed(self, first) {
@@ -101,6 +129,8 @@ impl Leader {
             → IsWriting self.new rooms.new (word_at nvm.new) v c }
         ensures turn { IsTurn self.old self.new rooms.old rooms.new }
         ensures homes { SameHomes nvm.old nvm.new }
+        ensures counts { KeepsCounts nvm.old nvm.new }
+        ensures operation { IsAtMostOne LEADER (word_at nvm.old) (word_at nvm.new) }
         ensures one { (nvm.new.ops ≡ nvm.old.ops) ⊎ (nvm.new.ops ≡ count_up nvm.old.ops) }
     {
         if rooms.tag_step(nvm, id) {
@@ -124,6 +154,8 @@ impl Leader {
             → (page : ℕ) → page < PAGES → stage_of rooms.new.pages page ≡ after (stage_of rooms.old.pages page) }
         ensures running { rooms.new.numbers.running ≡ rooms.old.numbers.running }
         ensures homes { SameHomes nvm.old nvm.new }
+        ensures counts { KeepsCounts nvm.old nvm.new }
+        ensures operation { IsAtMostOne LEADER (word_at nvm.old) (word_at nvm.new) }
         ensures one { nvm.new.ops ≡ count_up nvm.old.ops }
     {
         if rooms.commit_step(nvm) {
@@ -143,6 +175,8 @@ impl Leader {
             → IsApplying self.new rooms.new (word_at nvm.new) v saved pages }
         ensures turn { IsTurn self.old self.new rooms.old rooms.new }
         ensures homes { SameHomes nvm.old nvm.new }
+        ensures counts { KeepsCounts nvm.old nvm.new }
+        ensures operation { IsAtMostOne LEADER (word_at nvm.old) (word_at nvm.new) }
         ensures one { (nvm.new.ops ≡ count_up nvm.old.ops) ⊎ (nvm.new.ops ≡ nvm.old.ops) }
     {
         if rooms.apply_step(nvm) {

@@ -35,6 +35,7 @@ returns c =
     let reached = (c.reached_is_least.ensures.least (state_of old nothing)).fixed in
     record {
       state = λ rest zeros. c.freshen_pages.ensures.state rest zeros ∙ c.sweep.ensures.state rest;
+      slots = λ rest i below. slots rest i;
       threads = λ rest i below. ap (λ (l : List (List ℕ)). list_at l i) c.freshen_pages.ensures.links ∙ c.sweep.ensures.threads rest i below;
       strays = λ none. strays_kept mid new these c.freshen_pages.ensures.slots c.freshen_pages.ensures.links (c.sweep.ensures.strays none);
       fixed = λ fixed. fixed_kept old new (state_of old nothing) these reached (slots nothing) fixed;

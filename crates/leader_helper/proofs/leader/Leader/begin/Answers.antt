@@ -23,7 +23,7 @@ returns c =
     let records = record_at c.args.objects.now in
     let f = word_at c.args.nvm.now in
     let changed = c.changed_objects-changed.result in
-    let leader : Leader = record { stage = at.Pages 0; changed = changed } in
+    let leader : Leader = record { stage = at.Gather; changed = changed } in
     let found = c.changed_objects-changed.ensures in
     record {
       numbers = c.set_numbers.ensures.numbers;

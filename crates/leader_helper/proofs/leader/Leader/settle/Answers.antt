@@ -1,11 +1,11 @@
-use Rattle.std.specs.Prelude.{◌≡◌, ◌≢◌, ◌↔◌, ◌≤◌, ◌+◌, IsTrue, ℕ, Bool, true, false}
-use Rattle.std.proofs.Common.{◌∙◌, ap, arith, inl, inr, refl, subst, sym}
-use Rattle.sls_base.specs.declared.limits.TheConstants.{VERSION_AT}
+use Rattle.std.specs.Prelude.{◌+◌, ℕ, Bool}
+use Rattle.std.proofs.Common.{◌∙◌, ap, inl, inr, refl, subst, sym}
 use Rattle.pmem_model.specs.Memory.{word_at}
 use Rattle.page_store.specs.Known.{Open}
 use Rattle.version_rooms.specs.declared.rooms.Rooms.{Rooms}
 use Rattle.version_rooms.specs.Rooms.{Contents, RoomsShow, Settles}
 use Rattle.leader_helper.specs.Leads.{Applying, IsApplying, IsWriting}
+use Rattle.leader_helper.specs.declared.stage.Stage.TheVariants as stages
 use Rattle.leader_helper.specs.Stages.{page_phase}
 use Rattle.leader_helper.specs.Turns.{turns_left}
 use Rattle.leader_helper.proofs.Applies.{applies_again, is_calm}
@@ -23,8 +23,8 @@ returns-then-settle-clause-commits c = λ f v cont calm h is next n.
 pub returns-then-settle-clause-committed : goal.returns-then-settle-clause-committed
 returns-then-settle-clause-committed c = λ f v cont calm h.
     let r = c.args.rooms.now in
-    subst (λ (b : Bool). IsTrue b ↔ ((word_at c.args.nvm.now VERSION_AT).durable ≢ v)) c.if-settle.true
-    (c.settle.ensures.committed f v cont (whole r cont) (page_phase c.args.self.now.stage) calm (may_commit h (are_whole r cont)) h.shows)
+    let told = c.settle.ensures.committed f v cont (whole r cont) (page_phase c.args.self.now.stage) calm (may_commit h (are_whole r cont)) h.shows in
+    (λ some. told.0 c.if-settle.true, λ other. refl)
 
 pub returns-then-settle-clause-applies : goal.returns-then-settle-clause-applies
 returns-then-settle-clause-applies c = λ f v saved pages calm h.
@@ -39,7 +39,9 @@ returns-then-settle-clause-left c = λ f v cont calm h.
     let r = c.args.rooms.now in
     let l = c.args.self.now in
     elim (is_commit l.stage) [
-      | inl e ↦ settle_turn l r c.settle.new.self f v cont e (c.settle.ensures.numbers c.if-settle.true) h
+      | inl e ↦
+          settle_turn l r c.settle.new.self f v cont e (c.settle.ensures.numbers c.if-settle.true) h
+          ∙ ap (λ (n : ℕ). turns_left (record l { stage = stages.Apply }) c.settle.new.self + n) (sym c.commit_turns-spared.ensures)
       | inr other ↦
           let shows = c.calm.ensures r f (word_at c.args.nvm.now) v cont (page_phase l.stage) (h.rest other) calm h.shows in
           absurd ((c.settle.ensures.committed f v cont (whole r cont) (page_phase l.stage) calm (inl (h.rest other)) h.shows).0 c.if-settle.true shows.version.durable)
@@ -51,7 +53,7 @@ returns-then-settle-clause-stages c = λ f v cont calm h is.
     c.settle.ensures.stages f v cont (whole r cont) (page_phase c.args.self.now.stage) calm (may_commit h (are_whole r cont)) h.shows c.if-settle.true
 
 pub returns-else-settle-clause-writes : goal.returns-else-settle-clause-writes
-returns-else-settle-clause-writes c = λ f v cont calm h is.
+returns-else-settle-clause-writes c = λ f v cont calm h.
     let r = c.args.rooms.now in
     let g = word_at c.args.nvm.now in
     let phase = page_phase c.args.self.now.stage in
@@ -64,8 +66,8 @@ returns-else-settle-clause-writes c = λ f v cont calm h is.
 pub returns-else-settle-clause-committed : goal.returns-else-settle-clause-committed
 returns-else-settle-clause-committed c = λ f v cont calm h.
     let r = c.args.rooms.now in
-    subst (λ (b : Bool). IsTrue b ↔ ((word_at c.args.nvm.now VERSION_AT).durable ≢ v)) c.if-settle.false
-    (c.settle.ensures.committed f v cont (whole r cont) (page_phase c.args.self.now.stage) calm (may_commit h (are_whole r cont)) h.shows)
+    let told = c.settle.ensures.committed f v cont (whole r cont) (page_phase c.args.self.now.stage) calm (may_commit h (are_whole r cont)) h.shows in
+    (λ some. absurd (cc), λ other. (let set = told.1 other in let clear = c.if-settle.false in absurd (cc)))
 
 pub returns-else-settle-clause-applies : goal.returns-else-settle-clause-applies
 returns-else-settle-clause-applies c = λ f v saved pages calm h.
@@ -77,9 +79,3 @@ returns-else-settle-clause-applies c = λ f v saved pages calm h.
       subst (λ (x : Rooms). IsApplying c.args.self.now x g v saved pages) (sym same)
           (applies_again (λ objects. c.calm.ensures r f g v (record { saved = saved; objects = objects; pages = pages }) Open at.0 calm (at.1 objects)) h),
     )
-
-pub returns-else-settle-clause-left : goal.returns-else-settle-clause-left
-returns-else-settle-clause-left c = λ f v cont calm h.
-    let same = c.settle.ensures.none c.if-settle.false in
-    let e = ap (λ (x : Rooms). turns_left c.args.self.now x) same in
-    omega (arith, e)

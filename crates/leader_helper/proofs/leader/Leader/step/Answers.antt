@@ -5,6 +5,27 @@ use Rattle.leader_helper.proofs.Turned.{turns_now}
 use Rattle.leader_helper.proofs.Writing.{is_led_from, is_led_to, none_applying, none_writing}
 use Rattle.leader_helper.proofs.leader.Leader.step.Goals as goal
 
+pub flush_first-requires-clause-led : goal.flush_first-requires-clause-led
+flush_first-requires-clause-led c = is_led_to at.Gather c.in-Gather.is refl c.requires.leads
+
+pub flush_first-requires-clause-settled : goal.flush_first-requires-clause-settled
+flush_first-requires-clause-settled c = c.requires.settled c.in-Gather.is
+
+pub returns-in-Gather-clause-writes : goal.returns-in-Gather-clause-writes
+returns-in-Gather-clause-writes c = λ v cont of h. c.flush_first.ensures.writes v cont h
+
+pub returns-in-Gather-clause-applies : goal.returns-in-Gather-clause-applies
+returns-in-Gather-clause-applies c = λ v saved pages h. absurd (none_applying at.Gather c.in-Gather.is refl h)
+
+pub returns-in-Gather-clause-left : goal.returns-in-Gather-clause-left
+returns-in-Gather-clause-left c = λ other. c.flush_first.ensures.turn.left
+
+pub returns-in-Gather-clause-led : goal.returns-in-Gather-clause-led
+returns-in-Gather-clause-led c = λ other. c.flush_first.ensures.turn.pages
+
+pub returns-in-Gather-clause-running : goal.returns-in-Gather-clause-running
+returns-in-Gather-clause-running c = c.flush_first.ensures.turn.running
+
 pub flush_next-requires-clause-led : goal.flush_next-requires-clause-led
 flush_next-requires-clause-led c = is_led_to (at.Pages c.in-Pages.first) c.in-Pages.is refl c.requires.leads
 
