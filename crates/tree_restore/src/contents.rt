@@ -6,7 +6,7 @@ ghost use Rattle.object_records.specs.Records.{record_at};
 ghost use Rattle.object_records.specs.Pages as contents;
 ghost use Rattle.page_store.specs.Known.{Open};
 ghost use Rattle.page_store.specs.Shows.{PagesShow};
-ghost use Rattle.page_store.specs.Stages.{stage_of, IsSettled};
+ghost use Rattle.page_store.specs.Stages.{stage_of, IsAsRecovered, IsSettled};
 ghost use Rattle.page_store.specs.Back.{filled};
 ghost use Rattle.tree_restore.specs.Contents.{first_of};
 
@@ -17,7 +17,9 @@ use sls_base::{PAGES, PageNo};
 
 /// Forgets the pages on which no object has content. The others run as they are saved.
 pub fn forget_others(pages: &mut PageStore, objects: &Objects)
-    ensures { (f : ℕ → Word) (v : ℕ) (saved : ℕ → Option (ℕ → ℕ))
+    ensures recovered { (page : ℕ) → page < PAGES → IsAsRecovered (stage_of pages.old page)
+        → IsAsRecovered (stage_of pages.new page) }
+    ensures shows { (f : ℕ → Word) (v : ℕ) (saved : ℕ → Option (ℕ → ℕ))
         → ((page : ℕ) → page < PAGES → is_some (saved page) ≡ contents.is_content (record_at objects.now) page)
         → ((page : ℕ) → page < PAGES → IsSettled (stage_of pages.old page))
         → PagesShow pages.old f v saved (filled saved f) Open → PagesShow pages.new f v saved saved Open }
@@ -32,6 +34,7 @@ pub fn forget_others(pages: &mut PageStore, objects: &Objects)
 fn forget_other(pages: &mut PageStore, objects: &Objects, page: PageNo)
     requires { page < PAGES }
     ensures others { (i : ℕ) → IsSettled (stage_of pages.old i) → IsSettled (stage_of pages.new i) }
+    ensures recovered { (i : ℕ) → IsAsRecovered (stage_of pages.old i) → IsAsRecovered (stage_of pages.new i) }
     ensures shows { (f : ℕ → Word) (v : ℕ) (saved : ℕ → Option (ℕ → ℕ))
         → is_some (saved page) ≡ contents.is_content (record_at objects.now) page
         → IsSettled (stage_of pages.old page)

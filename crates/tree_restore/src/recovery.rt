@@ -1,11 +1,14 @@
 //! Recovery, one operation a step.
 
 ghost use Rattle.std.specs.Prelude.{◌≡◌, ◌≢◌, ◌⊎◌, ◌<◌, ◌≤◌, ◌↔◌, ℕ, IsTrue};
-ghost use Rattle.sls_base.specs.declared.limits.TheConstants.{VERSION_AT};
-ghost use Rattle.pmem_model.specs.Memory.{word_at, AllHome, count_up};
+ghost use Rattle.sls_base.specs.declared.fixed.TheConstants.{LEADER};
+ghost use Rattle.sls_base.specs.declared.limits.TheConstants.{PAGES, VERSION_AT};
+ghost use Rattle.pmem_model.specs.Memory.{word_at, AllHome, count_up, KeepsCounts};
+ghost use Rattle.pmem_operations.specs.Operations.{IsAtMostOne};
 ghost use Rattle.pmem_layout.specs.declared.places.TheConstants.{NUMBERS};
 ghost use Rattle.alloc_journal.specs.Sets.{has};
 ghost use Rattle.page_store.specs.Slots.{IsAllClean, durable_words};
+ghost use Rattle.page_store.specs.Stages.{stage_of, IsAsRecovered};
 ghost use Rattle.durable_state.specs.Parts.{Parts, PartsStand};
 ghost use Rattle.version_rooms.specs.Rest.{AreAtRest};
 ghost use Rattle.object_records.specs.Records.{HasOwnLists, record_at};
@@ -84,6 +87,8 @@ impl Recovery {
         ensures left { (turns_left self.new < turns_left self.old) ⊎ (turns_left self.old ≡ 0) }
         ensures one { (nvm.new.ops ≡ nvm.old.ops) ⊎ (nvm.new.ops ≡ count_up nvm.old.ops) }
         ensures home { AllHome nvm.new }
+        ensures counts { KeepsCounts nvm.old nvm.new }
+        ensures operation { IsAtMostOne LEADER (word_at nvm.old) (word_at nvm.new) }
         ensures shows { (v : ℕ) (saved : Parts) → RestoreShows self.old (word_at nvm.old) v saved
             → RestoreShows self.new (word_at nvm.new) v saved }
     {
@@ -97,6 +102,8 @@ impl Recovery {
         ensures left { (turns_left self.new < turns_left self.old) ⊎ (turns_left self.old ≡ 0) }
         ensures one { (nvm.new.ops ≡ nvm.old.ops) ⊎ (nvm.new.ops ≡ count_up nvm.old.ops) }
         ensures home { AllHome nvm.new }
+        ensures counts { KeepsCounts nvm.old nvm.new }
+        ensures operation { IsAtMostOne LEADER (word_at nvm.old) (word_at nvm.new) }
         ensures shows { (v : ℕ) (saved : Parts) → RestoreShows self.old (word_at nvm.old) v saved
             → RestoreShows self.new (word_at nvm.new) v saved }
     {
@@ -121,6 +128,8 @@ impl Recovery {
         ensures records { (v : ℕ) (saved : Parts) → turns_left self ≡ 0 → AreWhole saved
             → RestoreShows self (word_at nvm.now) v saved → (i : ℕ) → record_at result.objects i ≡ saved.objects i }
         ensures own { HasOwnLists result.objects }
+        ensures stages { (v : ℕ) (saved : Parts) → turns_left self ≡ 0 → RestoreShows self (word_at nvm.now) v saved
+            → (page : ℕ) → page < PAGES → IsAsRecovered (stage_of result.rooms.pages page) }
     {
         alloc_journal::laws::known();
         object_root::laws::room();

@@ -4,7 +4,7 @@ use Rattle.page_store.specs.declared.stage.PageStage.{PageStage}
 use Rattle.page_store.specs.Known.{Open}
 use Rattle.page_store.specs.Back.{filled}
 use Rattle.page_store.specs.Shows.{with_page}
-use Rattle.page_store.specs.Stages.{IsSettled, stage_of}
+use Rattle.page_store.specs.Stages.{IsAsRecovered, IsSettled, stage_of}
 use Rattle.tree_restore.specs.Contents.{first_of}
 use Rattle.tree_restore.proofs.Forgetting.{filled_whole, forgotten, forgotten_saved, kept, no_content}
 use Rattle.tree_restore.proofs.contents.forget_other.Goals as goal
@@ -21,6 +21,13 @@ returns-then-is_settled-clause-others c = λ i settled. elim (cases_eq i c.args.
   | inl here ↦ subst (λ (n : ℕ). IsSettled (stage_of c.forget.new.self n)) (sym here)
       (subst (λ (stage : PageStage). IsSettled stage) (sym c.forget.ensures.stage) tt)
   | inr other ↦ subst (λ (stage : PageStage). IsSettled stage) (sym (c.forget.ensures.others i other)) settled
+]
+
+pub returns-then-is_settled-clause-recovered : goal.returns-then-is_settled-clause-recovered
+returns-then-is_settled-clause-recovered c = λ i recovered. elim (cases_eq i c.args.page) [
+  | inl here ↦ subst (λ (n : ℕ). IsAsRecovered (stage_of c.forget.new.self n)) (sym here)
+      (subst (λ (stage : PageStage). IsAsRecovered stage) (sym c.forget.ensures.stage) tt)
+  | inr other ↦ subst (λ (stage : PageStage). IsAsRecovered stage) (sym (c.forget.ensures.others i other)) recovered
 ]
 
 pub returns-then-is_settled-clause-shows : goal.returns-then-is_settled-clause-shows

@@ -10,6 +10,7 @@ use Rattle.object_root.specs.Shows.{ObjectsShow}
 use Rattle.page_store.specs.declared.store.PageStore.{PageStore}
 use Rattle.page_store.specs.Known.{Open}
 use Rattle.page_store.specs.Shows.{PagesShow}
+use Rattle.page_store.specs.Stages.{IsAsRecovered, stage_of}
 use Rattle.object_records.specs.Pages.{is_content}
 use Rattle.version_rooms.proofs.Parted.{from_rest}
 use Rattle.tree_restore.specs.Whole.{CanBeRead}
@@ -42,7 +43,7 @@ returns-clause-rest c = λ v saved none whole h.
     let room = c.new.ensures.roots in
     let log = h.redone.log end.log in
     let phase = h.cleared.records end.tags in
-    let pages = c.forget_others.ensures f v saved.pages
+    let pages = c.forget_others.ensures.shows f v saved.pages
     (λ page lt. whole.pages page lt ∙ sym (ap (λ (records : ℕ → Option Obj). is_content records page) alike))
     (c.finish-pages.ensures.settled f v saved.pages end.pages h.pages) (c.finish-pages.ensures.shows f v saved.pages end.pages h.pages) in
     record {
@@ -61,3 +62,10 @@ returns-clause-rest c = λ v saved none whole h.
       idle = λ i. ap (λ (r : Room). stage_at r i) room ∙ h.cleared.idle i;
       log = ap (λ (u : InUse). u.work.stage) c.new.ensures.numbers ∙ log;
     }
+
+pub returns-clause-stages : goal.returns-clause-stages
+returns-clause-stages c = λ v saved none h page lt.
+    let back = (over c.args.self none).pages in
+    let found = c.finish-pages.ensures.recovered (word_at c.args.nvm.now) v saved.pages back h.pages page lt in
+    subst (λ (s : PageStore). IsAsRecovered (stage_of s page)) (sym c.new.ensures.pages)
+    (c.forget_others.ensures.recovered page lt found)
