@@ -9,8 +9,8 @@ mod objects;
 mod spaces;
 mod threads;
 
-pub use content::{content_on, first_word, word_from};
-pub use objects::first_objects;
+pub use content::{WORD_BYTES, content_on, first_word, word_from};
+pub use objects::{first_objects, pages_in_use};
 
 #[cfg(test)]
 mod tests;

@@ -70,6 +70,18 @@ pub fn first_objects(image: &Image, cores: u8) -> Objects
     objects
 }
 
+/// How many pages are in use, of the output rings and of all programs: those below are the ones.
+pub fn pages_in_use(image: &Image) -> PageNo
+    requires { FIRST_PROGRAM_PAGE + sum_by plain.program_pages image.now.programs.items ≤ PAGES }
+    ensures { result ≡ FIRST_PROGRAM_PAGE + sum_by plain.program_pages image.now.programs.items }
+{
+    let mut pages = FIRST_PROGRAM_PAGE;
+    for program in &image.programs {
+        pages += program_pages(program);
+    }
+    pages
+}
+
 /// The objects that are always there.
 fn fixed_objects(programs: &[Program], cores: u8) -> Objects
     requires count { length programs.now ≤ PROGRAMS }

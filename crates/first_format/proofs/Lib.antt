@@ -1,0 +1,10 @@
+pub mod Places
+pub mod Steps
+pub mod Bits
+pub mod Records
+pub mod Pages
+pub mod Stands
+pub mod Firsts
+pub mod Rooms
+pub mod WordSteps
+pub mod PieceWords

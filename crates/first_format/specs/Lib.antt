@@ -1,0 +1,5 @@
+pub mod Parts
+pub mod Formatted
+pub mod Pieces
+pub mod Clean
+pub mod Shows
