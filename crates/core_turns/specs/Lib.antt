@@ -1,0 +1,4 @@
+pub mod Marks
+pub mod Restored
+pub mod Runs
+pub mod Turns
