@@ -30,6 +30,7 @@ impl Leader {
     /// which of them changed since the last commit.
     pub fn begin(objects: &Objects, rooms: &mut Rooms, nvm: &Pmem) -> Leader
         requires records { (id : ℕ) → IfSome (record_at objects.now id) IsObj }
+        ensures stage { result.stage ≡ Stage.Gather }
         ensures numbers { (rest : Rest) → AreNumbersOf (has rooms.new.numbers.running) (state_of objects.now rest) }
         ensures rest { rooms.new ≡ record rooms.old {
           numbers = record rooms.old.numbers { running = rooms.new.numbers.running };

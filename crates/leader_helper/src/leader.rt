@@ -55,6 +55,7 @@ impl Leader {
         ensures left { result ≢ Progress.Resumed
             → turns_left self.old rooms.old ≡ turns_left self.new rooms.new + 1 }
         ensures last { result ≡ Progress.Resumed → turns_left self.old rooms.old ≡ 1 }
+        ensures still { result ≡ Progress.Resumed → nvm.new ≡ nvm.old }
         // A page may be stored to as before, up to the commit.
         ensures led { result ≢ Progress.Committed
             → (page : ℕ) → page < PAGES → state_of rooms.new.pages page ≡ state_of rooms.old.pages page }

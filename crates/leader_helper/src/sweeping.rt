@@ -1,12 +1,14 @@
 //! The sweep of a checkpoint.
 
-ghost use Rattle.std.specs.Prelude.{◌≡◌, ◌<◌, ◌≤◌, ◌&&◌, ℕ, true, not, Option, if◌then◌else◌};
+ghost use Rattle.std.specs.Prelude.{◌≡◌, ◌<◌, ◌≤◌, ◌&&◌, ℕ, true, false, not, Option, if◌then◌else◌};
+ghost use Rattle.sls_base.specs.declared.fixed.TheConstants.{SCHEDULER};
 ghost use Rattle.sls_base.specs.declared.limits.TheConstants.{OBJECTS, PAGES};
 ghost use Rattle.link_lists.specs.Lists.{list_at};
 ghost use Rattle.plain_model.specs.Sweep as plain;
 ghost use Rattle.plain_model.specs.Worlds.{World, has_page};
+ghost use Rattle.kobj_table.specs.Slots.{is_scheduler};
 ghost use Rattle.kobj_table.specs.Objects.{Rest, slot_at, state_of, HasNoStrays};
-ghost use Rattle.object_records.specs.Records.{record_at};
+ghost use Rattle.object_records.specs.Records.{record_at, record_of};
 ghost use Rattle.object_records.specs.Ranges.{AreUntoldInRange, HasFixedSlots, IsSoundState};
 ghost use Rattle.object_records.specs.Pages.{is_content};
 ghost use Rattle.object_records.specs.Marks.{marked};
@@ -34,6 +36,12 @@ pub fn sweep(objects: &mut Objects, rooms: &Rooms)
     ensures strays { HasNoStrays objects.old → HasNoStrays objects.new }
     ensures fixed { HasFixedSlots objects.old → HasFixedSlots objects.new }
     ensures untold { AreUntoldInRange objects.old → AreUntoldInRange objects.new }
+
+    // An object that isn't swept otherwise keeps its record, but that pages are marked as fresh.
+    ensures unswept { (rest : Rest) (i : ℕ) → is_scheduler (slot_at objects.old SCHEDULER) ≡ true
+        → HasNoStrays objects.old → plain.is_swept_otherwise (state_of objects.old rest) i ≡ false
+        → record_at objects.new i ≡ record_of (freshened (is_zeroed_below rooms.now PAGES) (slot_at objects.old i))
+        (list_at objects.old.links i) }
 
     // Content have the pages that had it, if an object that is left has them and something was stored to them.
     ensures content { (rest : Rest) (page : ℕ) → IsSoundState (state_of objects.old rest) → page < PAGES

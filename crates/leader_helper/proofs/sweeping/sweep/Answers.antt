@@ -6,9 +6,10 @@ use Rattle.link_lists.specs.Lists.{list_at}
 use Rattle.page_store.specs.Stages.{stage_of}
 use Rattle.plain_model.specs.Sweep.{swept}
 use Rattle.plain_model.specs.Worlds.{World, has_page}
-use Rattle.kobj_table.specs.Objects.{Rest, state_of}
+use Rattle.kobj_table.specs.declared.slot.Slot.{Slot}
+use Rattle.kobj_table.specs.Objects.{Rest, slot_at, state_of}
 use Rattle.object_records.specs.Pages.{is_content}
-use Rattle.object_records.specs.Records.{record_at}
+use Rattle.object_records.specs.Records.{record_at, record_of}
 use Rattle.plain_state.specs.declared.label.Label.{Label}
 use Rattle.plain_model.specs.States.{State}
 use Rattle.plain_model.specs.Play.{commit}
@@ -40,6 +41,12 @@ returns c =
       strays = λ none. strays_kept mid new these c.freshen_pages.ensures.slots c.freshen_pages.ensures.links (c.sweep.ensures.strays none);
       fixed = λ fixed. fixed_kept old new (state_of old nothing) these reached (slots nothing) fixed;
       untold = λ untold. untold_kept old new (state_of old nothing) these (slots nothing) untold;
+      unswept = λ rest i scheduler none is.
+          let told = c.sweep.ensures.told rest i ∙ is in
+          ap (λ (slot : Slot). record_of slot (list_at new.links i))
+          (c.freshen_pages.ensures.slots i ∙ ap (freshened these) (c.sweep.ensures.slots i told))
+          ∙ ap (record_of (freshened these (slot_at old i)))
+          (ap (λ (l : List (List ℕ)). list_at l i) c.freshen_pages.ensures.links ∙ c.sweep.ensures.lists scheduler none i told);
       content = λ rest page sound inside fixed.
           let below = lt-ltb page PAGES inside in
           let same : these page ≡ is_zeroed_alone (stage_of r.pages page) = rw below (and_all (is_zeroed_alone (stage_of r.pages page))) in

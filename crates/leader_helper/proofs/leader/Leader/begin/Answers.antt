@@ -26,6 +26,7 @@ returns c =
     let leader : Leader = record { stage = at.Gather; changed = changed } in
     let found = c.changed_objects-changed.ensures in
     record {
+      stage = refl;
       numbers = c.set_numbers.ensures.numbers;
       rest = c.set_numbers.ensures.rest;
       changed = λ v saved pages may id inside. found_told (is_changed leader id) (records id) (saved.objects id) (found v saved pages may id inside);

@@ -131,6 +131,9 @@ returns-in-Commit-clause-left c = λ other. c.commit_next.ensures.left
 pub returns-in-Commit-clause-last : goal.returns-in-Commit-clause-last
 returns-in-Commit-clause-last c = λ is. absurd (c.commit_next.ensures.goes_on is)
 
+pub returns-in-Commit-clause-still : goal.returns-in-Commit-clause-still
+returns-in-Commit-clause-still c = λ is. absurd (c.commit_next.ensures.goes_on is)
+
 pub apply_next-requires-clause-led : goal.apply_next-requires-clause-led
 apply_next-requires-clause-led c = is_led_from at.Apply c.in-Apply.is refl c.requires.leads
 
