@@ -4,8 +4,7 @@
     python3 bench/ticks.py [FOLDER]
 
 It copies the crates to FOLDER, or to one that it removes again, puts bench/ticks.txt beside the modules of tick_tests,
-has `rt test` prove and build that, and runs it several times; of each number the least counts. bench/ticks.md tells what
-came of it.
+has `rt test` prove and build that, and runs it several times; of each number the least counts.
 
 A tick is timed with what is asked before it: the pages that it needs, and whether they are there, since whoever ticks
 owes that. What asking takes is the difference to ticks before which it is asked once more.
@@ -81,9 +80,9 @@ def least(program):
     times = {}
     for _ in range(TRIES):
         ran = subprocess.run([program, TEST], capture_output=True, text=True, check=True)
-        for line in ran.stdout.splitlines():
-            kind, count, *spent = line.split()
-            times.setdefault(kind, []).append([int(nanoseconds) / int(count) for nanoseconds in spent])
+        for kind, count, *spent in filter(None, map(str.split, ran.stdout.splitlines())):
+            if kind in ROUNDS:
+                times.setdefault(kind, []).append([int(nanoseconds) / int(count) for nanoseconds in spent])
     return {kind: [min(column) for column in zip(*tries)] for kind, tries in times.items()}
 
 
