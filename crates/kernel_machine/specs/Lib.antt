@@ -1,0 +1,5 @@
+pub mod Sides
+pub mod Formats
+pub mod Worlds
+pub mod Shows
+pub mod Turns
